@@ -1,0 +1,169 @@
+// Blocks, groups, bits and zero bytes in lent rows of bytes: 01 "The tag memory".
+// No public function has a `requires`: a read of what is not there gives zero, a write of it changes nothing.
+use geometry::Geometry;
+ghost use mathlib.Core.Path.{_≡_};
+ghost use Prim.Native.Nat.{_+_, _*_, _^_, _<_};
+ghost use lib.ListN.{length};
+ghost use Rattle.laws.specs.Choice.{pick};
+ghost use Rattle.laws.specs.Bytes.{putW};
+ghost use Rattle.laws.specs.Bits.{bitOf, withBit};
+ghost use Rattle.block.specs.Block.{blockOr0, groupAt, putGroup, bitAt, putBit, allZero};
+
+// All of src into dst, which is as long.
+fn copy_bytes(dst: &mut [u8], src: &[u8])
+    requires { ⌜ length (now dst) ≡ length (now src) ⌝ }
+    ensures { λ _. ⌜ now (dst .exit) ≡ now (src .entry) ⌝ }
+{
+    let mut i = 0;
+    while i < src.len() {
+        dst[i] = src[i];
+        i += 1;
+    }
+}
+
+// A block into bytes that are as long.
+fn copy_block(dst: &mut [u8], src: &[u8; Geometry::BLOCK_LEN])
+    requires { ⌜ length (now dst) ≡ 64 ⌝ }
+    ensures { λ _. ⌜ now (dst .exit) ≡ now (src .entry) ⌝ }
+{
+    copy_bytes(dst, src);
+}
+
+// The block into memory's part from `at`; where it does not fit, memory stays as it was.
+pub fn write_block(memory: &mut [u8], at: usize, block: &[u8; Geometry::BLOCK_LEN])
+    ensures { λ _. ⌜ now (memory .exit) ≡ putW 64 (now (memory .entry)) at (now (block .entry)) ⌝ }
+{
+    if memory.len() < Geometry::BLOCK_LEN {
+        return;
+    }
+    if memory.len() - Geometry::BLOCK_LEN < at {
+        return;
+    }
+    copy_block(&mut memory[at..at + Geometry::BLOCK_LEN], block);
+}
+
+// The block at `at`; zeros where its bytes are not all there.
+pub fn read_block(memory: &[u8], at: usize) -> [u8; Geometry::BLOCK_LEN]
+    ensures { λ r. ⌜ r ≡ blockOr0 (now (memory .entry)) at ⌝ }
+{
+    let mut block = [0u8; Geometry::BLOCK_LEN];
+    if memory.len() < Geometry::BLOCK_LEN {
+        return block;
+    }
+    if memory.len() - Geometry::BLOCK_LEN < at {
+        return block;
+    }
+    copy_bytes(&mut block, &memory[at..at + Geometry::BLOCK_LEN]);
+    block
+}
+
+// Four bytes as a number, low byte first.
+fn join(a: u8, b: u8, c: u8, d: u8) -> u32
+    ensures { λ r. ⌜ r ≡ a + 256 * b + 65536 * c + 16777216 * d ⌝ }
+{
+    a as u32 + 256 * (b as u32) + 65536 * (c as u32) + 16777216 * (d as u32)
+}
+
+// The group whose four bytes begin at `at`; 0 where they are not all there.
+pub fn group_at(row: &[u8], at: usize) -> u32
+    ensures { λ r. ⌜ r ≡ groupAt (now (row .entry)) at ⌝ }
+{
+    if row.len() < Geometry::GROUP_LEN {
+        return 0;
+    }
+    if row.len() - Geometry::GROUP_LEN < at {
+        return 0;
+    }
+    join(row[at], row[at + 1], row[at + 2], row[at + 3])
+}
+
+// Group v into its four bytes from `at`; where they do not fit, nothing changes.
+pub fn put_group(row: &mut [u8], at: usize, v: u32)
+    ensures { λ _. ⌜ now (row .exit) ≡ putGroup (now (row .entry)) at v ⌝ }
+{
+    if row.len() < Geometry::GROUP_LEN {
+        return;
+    }
+    if row.len() - Geometry::GROUP_LEN < at {
+        return;
+    }
+    row[at] = (v % 256) as u8;
+    row[at + 1] = (v / 256 % 256) as u8;
+    row[at + 2] = (v / 256 / 256 % 256) as u8;
+    row[at + 3] = (v / 256 / 256 / 256 % 256) as u8;
+}
+
+// Every byte is zero.
+pub fn all_zero(row: &[u8]) -> bool
+    ensures { λ r. ⌜ r ≡ allZero (now (row .entry)) ⌝ }
+{
+    let mut zero = true;
+    let mut i = 0;
+    while i < row.len() {
+        if row[i] != 0 {
+            zero = false;
+        }
+        i += 1;
+    }
+    zero
+}
+
+// Bit k of a byte, bit 0 lowest; 0 past the last.
+pub fn bit_of(x: u8, k: u32) -> u8
+    ensures { λ r. ⌜ r ≡ bitOf x k ⌝ }
+{
+    if Geometry::BYTE_BITS <= k {
+        return 0;
+    }
+    (x >> k) % 2
+}
+
+// Bit k of the byte at `at`; 0 where there is no such byte.
+pub fn bit_at(row: &[u8], at: usize, k: u32) -> u8
+    ensures { λ r. ⌜ r ≡ bitAt (now (row .entry)) at k ⌝ }
+{
+    if row.len() <= at {
+        return 0;
+    }
+    bit_of(row[at], k)
+}
+
+// The number of a byte's bit k alone.
+fn power(k: u32) -> u8
+    requires { ⌜ k < 8 ⌝ }
+    ensures { λ r. ⌜ r ≡ 2 ^ k ⌝ }
+{
+    1u8 << k
+}
+
+// A byte with its bit k made v.
+fn with_bit(x: u8, k: u32, v: bool) -> u8
+    requires { ⌜ k < 8 ⌝ }
+    ensures { λ r. ⌜ r ≡ withBit x k (pick v 1 0) ⌝ }
+{
+    let old = bit_of(x, k);
+    if v {
+        if old == 1 {
+            return x;
+        }
+        return x + power(k);
+    }
+    if old == 1 {
+        return x - power(k);
+    }
+    x
+}
+
+// Bit k of the byte at `at` made v; nothing changes where there is no such bit.
+pub fn put_bit(row: &mut [u8], at: usize, k: u32, v: bool)
+    ensures { λ _. ⌜ now (row .exit) ≡ putBit (now (row .entry)) at k (pick v 1 0) ⌝ }
+{
+    if Geometry::BYTE_BITS <= k {
+        return;
+    }
+    if row.len() <= at {
+        return;
+    }
+    let x = with_bit(row[at], k, v);
+    row[at] = x;
+}

@@ -1,0 +1,5 @@
+pub mod Limits
+pub mod Lengths
+pub mod Places
+pub mod One
+pub mod Tags

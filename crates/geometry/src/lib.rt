@@ -1,0 +1,124 @@
+// 01 "The tag memory": the limits and the address rules, as a type of their own.
+// No public function has a `requires`: the number of a leaf, a group or a block is 32 bits wide, and places are counted in 64.
+ghost use mathlib.Core.Path.{_≡_};
+ghost use Prim.Native.Nat.{_+_};
+ghost use Rattle.geometry.specs.TagMemory.{leafOf, byteOf, inLimits, mapBlockOf, mapByteOf, mapBitOf, mapBlocks, blocks, memoryLength, blockPlace, groupPlace, mapPlace};
+
+pub struct Geometry {}
+
+impl Geometry {
+    // The most leaves that a memory has; the fewest is one.
+    pub const MOST_LEAVES: u64 = 262144;
+
+    // The bytes of a block, leaf or map.
+    pub const BLOCK_LEN: usize = 64;
+
+    // The bytes of a group.
+    pub const GROUP_LEN: usize = 4;
+
+    // The groups of a leaf.
+    pub const GROUPS: u32 = 16;
+
+    // The bits of a map block.
+    pub const BITS: u32 = 512;
+
+    // The bits of a byte.
+    pub const BYTE_BITS: u32 = 8;
+
+    // n is a number of leaves that a memory can have.
+    pub fn in_limits(n: u64) -> bool
+        ensures { λ r. ⌜ r ≡ inLimits n ⌝ }
+    {
+        if n < 1 {
+            return false;
+        }
+        if Self::MOST_LEAVES < n {
+            return false;
+        }
+        true
+    }
+
+    // The leaf of group g.
+    pub fn leaf_of(g: u32) -> u32
+        ensures { λ r. ⌜ r ≡ leafOf g ⌝ }
+    {
+        g / Self::GROUPS
+    }
+
+    // The place of group g's first byte in its leaf.
+    pub fn byte_of(g: u32) -> usize
+        ensures { λ r. ⌜ r ≡ byteOf g ⌝ }
+    {
+        Self::GROUP_LEN * ((g % Self::GROUPS) as usize)
+    }
+
+    // The map block of leaf k, counted from the first map block.
+    pub fn map_block_of(k: u32) -> u32
+        ensures { λ r. ⌜ r ≡ mapBlockOf k ⌝ }
+    {
+        k / Self::BITS
+    }
+
+    // The byte of leaf k's bit in its map block.
+    pub fn map_byte_of(k: u32) -> usize
+        ensures { λ r. ⌜ r ≡ mapByteOf k ⌝ }
+    {
+        (k % Self::BITS / Self::BYTE_BITS) as usize
+    }
+
+    // The bit of leaf k in that byte.
+    pub fn map_bit_of(k: u32) -> u32
+        ensures { λ r. ⌜ r ≡ mapBitOf k ⌝ }
+    {
+        k % Self::BYTE_BITS
+    }
+
+    // The number of map blocks over n leaves.
+    pub fn map_blocks(n: u32) -> u64
+        ensures { λ r. ⌜ r ≡ mapBlocks n ⌝ }
+    {
+        (n as u64 + (Self::BITS as u64 - 1)) / (Self::BITS as u64)
+    }
+
+    // The blocks of a memory of n leaves.
+    pub fn blocks(n: u32) -> u64
+        ensures { λ r. ⌜ r ≡ blocks n ⌝ }
+    {
+        n as u64 + Self::map_blocks(n)
+    }
+
+    // The bytes of a memory of n leaves.
+    pub fn memory_length(n: u32) -> u64
+        ensures { λ r. ⌜ r ≡ memoryLength n ⌝ }
+    {
+        Self::BLOCK_LEN as u64 * Self::blocks(n)
+    }
+
+    // The number, among all blocks of a memory of n leaves, of the map block with leaf k's bit.
+    pub fn map_number(n: u32, k: u32) -> u64
+        ensures { λ r. ⌜ r ≡ n + mapBlockOf k ⌝ }
+    {
+        n as u64 + (Self::map_block_of(k) as u64)
+    }
+
+    // The place in memory of block b.
+    pub fn block_place(b: u32) -> usize
+        ensures { λ r. ⌜ r ≡ blockPlace b ⌝ }
+    {
+        Self::BLOCK_LEN * (b as usize)
+    }
+
+    // The place in memory of group g's first byte.
+    pub fn group_place(g: u32) -> usize
+        ensures { λ r. ⌜ r ≡ groupPlace g ⌝ }
+    {
+        Self::block_place(Self::leaf_of(g)) + Self::byte_of(g)
+    }
+
+    // The place in a memory of n leaves of the byte that has leaf k's bit.
+    pub fn map_place(n: u32, k: u32) -> usize
+        ensures { λ r. ⌜ r ≡ mapPlace n k ⌝ }
+    {
+        Self::BLOCK_LEN * (Self::map_number(n, k) as usize) + Self::map_byte_of(k)
+    }
+}

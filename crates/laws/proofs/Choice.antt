@@ -1,0 +1,58 @@
+-- Laws of tests: what a test that came out true or false says of its parts.
+use mathlib.Core.Path.{_≡_, refl, sym}
+use mathlib.Core.Bool.{Bool, true, false}
+use mathlib.Core.Logic.{_⊎_, inl, inr}
+use Prim.Native.Nat.{ℕ}
+use native.Mathlib.Omega.{arith}
+use Rattle.laws.specs.Choice.{both, either, implies, no}
+
+pub not-both-ways : {b : Bool} → b ≡ true → b ≡ false → ⊥
+not-both-ways {b} p q = let z : _≡_ {A = ℕ} 0 1 = cc in omega arith
+
+pub true-or-false : (b : Bool) → (b ≡ true) ⊎ (b ≡ false)
+true-or-false true = inl refl
+true-or-false false = inr refl
+
+module _ (a b : Bool) where
+  pub both-true : a ≡ true → b ≡ true → both a b ≡ true
+  unfolding both
+  both-true p q = rw (p, q)
+
+  pub both-false-left : a ≡ false → both a b ≡ false
+  unfolding both
+  both-false-left p = rw p
+
+pub both-false-right : (a b : Bool) → b ≡ false → both a b ≡ false
+unfolding both
+both-false-right true b q = q
+both-false-right false b q = refl
+
+pub both-left : (a b : Bool) → both a b ≡ true → a ≡ true
+unfolding both
+both-left true b h = refl
+both-left false b h = h
+
+pub both-right : (a b : Bool) → both a b ≡ true → b ≡ true
+unfolding both
+both-right true b h = h
+both-right false b h = absurd (not-both-ways h refl)
+
+pub no-true : (b : Bool) → no b ≡ true → b ≡ false
+unfolding no
+no-true true h = sym h
+no-true false h = refl
+
+pub no-false : (b : Bool) → no b ≡ false → b ≡ true
+unfolding no
+no-false true h = refl
+no-false false h = sym h
+
+pub implies-true : (a b : Bool) → implies a b ≡ true → a ≡ true → b ≡ true
+unfolding implies
+implies-true true b h p = h
+implies-true false b h p = absurd (not-both-ways p refl)
+
+pub implied : (a b : Bool) → (a ≡ true → b ≡ true) → implies a b ≡ true
+unfolding implies
+implied true b h = h refl
+implied false b h = refl

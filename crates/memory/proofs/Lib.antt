@@ -1,0 +1,5 @@
+pub mod Parts
+pub mod Reading
+pub mod Truth
+pub mod Clearing
+pub mod One

@@ -1,0 +1,2 @@
+pub mod PlainReading
+pub mod True

@@ -1,0 +1,276 @@
+-- Each call on a whole state with the right lengths gives a whole state with the right lengths, refused or not; a busy tracker's step is never refused.
+use mathlib.Core.Path.{_≡_, refl, sym, ap, _∙_, subst}
+use mathlib.Core.Bool.{Bool, true, false}
+use mathlib.Core.List.{List}
+use mathlib.Core.Logic.{_⊎_, inl, inr, ⊎-elim}
+use Prim.Native.Nat.{ℕ, zero, suc, _+_, _-_, _*_, _<_, _≤_}
+use native.Mathlib.Omega.{arith}
+use lib.Dec.{eqb, ltb, leb}
+use lib.ListN.{length, getD, set, length-set, replicate, length-replicate}
+use lib.Seq.{getD-set-same, getD-set-other}
+use borrow.Author.Tests.{lt-ltb, le-ltb, ltb-true, ltb-false, le-leb, leb-true, eqb-true, eqb-false, eq-eqb, ne-eqb}
+use native.Mathlib.Decide.{ℕ-discrete}
+use Rattle.laws.specs.Choice.{pick, both}
+use Rattle.laws.specs.Scan.{all}
+use Rattle.laws.proofs.Choice.{not-both-ways, true-or-false, both-left, both-right, both-true}
+use Rattle.laws.proofs.Splice.{lt-or-ge}
+use Rattle.laws.proofs.Scan.{all-at}
+use Rattle.geometry.specs.TagMemory.{inLimits, memoryLength, blocks}
+use Rattle.tracker.specs.declared.Phase.{Phase}
+use Rattle.tracker.specs.declared.Phase.the-variants.{Idle, Probe, Map, Leaf, Set, Clear}
+use Rattle.tracker.specs.declared.Tracker.{Tracker}
+use Rattle.tracker.specs.Tracker.{idle, isIdle, isIdleAt, holdsAt, issued, firstPhase}
+use Rattle.tracker.specs.Answer.{Said, ok, no as refusal}
+use Rattle.line.specs.Word.{used, blockOf, holder, cleaned}
+use Rattle.rules.specs.State.{State, Rows, trackerAt, lengthsRight, begun}
+use Rattle.rules.specs.Whole.{limits, mapBlock, phaseWhole, whole}
+use Rattle.rules.specs.Place.{rowsFit, drained, writtenBack}
+use Rattle.rules.specs.Step.{Turned, fit, byPhase, turnOf}
+use Rattle.rules.specs.Calls.{Out, refused, accepted, fresh, opened, withTracker, withLines, issueNo, issue, stepped, stepNo, step, allIdle, drainNo, drain}
+use Rattle.rules.proofs.Words.{used-free, used-cleaned, blockOf-cleaned, holder-cleaned, holder-free}
+use Rattle.rules.proofs.Lined.{at, Has, Held, Lined, low, loose-lined, same-holds}
+use Rattle.rules.proofs.Whole.{heldOf, heldOf-yes, heldOf-no, heldOf-is, Tracked, Whole, whole-facts, facts-whole, inLimits-of, t-most, l-least, l-most}
+use Rattle.rules.proofs.Placed.{written-length, held-used}
+use Rattle.rules.proofs.Keeps.{isNo, Keeps, keeps-byPhase, tracked-set, heldOf-other, tracker-same}
+use Rattle.rules.proofs.Ways.{turn-is}
+
+-- the lengths, as facts
+module _ (n l : ℕ) (bytes memory : List ℕ) where
+  pub bytes-right : lengthsRight n l bytes memory ≡ true → length bytes ≡ 64 * l
+  unfolding lengthsRight
+  bytes-right h = eqb-true _ _ (both-left _ _ h)
+
+  pub memory-right : lengthsRight n l bytes memory ≡ true → length memory ≡ memoryLength n
+  unfolding lengthsRight
+  memory-right h = eqb-true _ _ (both-right _ _ h)
+
+  pub lengths-right : length bytes ≡ 64 * l → length memory ≡ memoryLength n → lengthsRight n l bytes memory ≡ true
+  unfolding lengthsRight
+  lengths-right p q = both-true _ _ (eq-eqb _ _ p) (eq-eqb _ _ q)
+
+-- what a call leaves: a whole state, of the same n, t and l, and lent bytes of the right lengths
+pub record Sound (n t l : ℕ) (o : Out) : Type 0 where
+  pub n-is : o .state .n ≡ n
+  pub t-is : o .state .t ≡ t
+  pub l-is : o .state .l ≡ l
+  pub is-whole : whole (o .state) ≡ true
+  pub right : lengthsRight n l (o .bytes) (o .memory) ≡ true
+
+module _ (s : State) (bytes memory : List ℕ) (w : whole s ≡ true) (len : lengthsRight (s .n) (s .l) bytes memory ≡ true) where
+  f : Whole s
+  f = whole-facts s w
+
+  pub refused-sound : (c : ℕ) → Sound (s .n) (s .t) (s .l) (refused c s bytes memory)
+  refused-sound c = record { n-is = refl; t-is = refl; l-is = refl; is-whole = w; right = len }
+
+  abbrev pub rows : Rows
+  rows = record { lines = s .lines; bytes = bytes; memory = memory }
+
+  pub rows-fit : rowsFit (s .l) (s .lines) bytes ≡ true
+  unfolding rowsFit
+  rows-fit = both-true _ _ (le-leb _ _ (f .lined .long)) (eq-eqb _ _ (bytes-right (s .n) (s .l) bytes memory len))
+
+  module _ (x : ℕ) (xl : x < s .t) where
+    module _ (busy : isIdle (trackerAt (s .trackers) x) ≡ false) where
+      pub turn-fit : fit (s .n) (s .l) x (trackerAt (s .trackers) x) rows ≡ true
+      unfolding fit
+      turn-fit =
+          let x1 : x < 127 = omega (arith, t-most (s .n) (s .t) (s .l) (f .limits-ok)) in
+          both-true _ _ (both-true _ _ (inLimits-of (s .n) (s .t) (s .l) (f .limits-ok)) (le-leb _ _ (f .lined .long)))
+          (both-true _ _ (lt-ltb _ _ (f .tracked .group-lt x busy)) (lt-ltb _ _ x1))
+
+      -- the core's step is the rule of the tracker's phase
+      pub turn-byPhase : turnOf (s .n) (s .l) (s .hand) x (trackerAt (s .trackers) x) rows ≡ byPhase (s .n) (s .l) (s .hand) x (trackerAt (s .trackers) x) rows (trackerAt (s .trackers) x .phase)
+      turn-byPhase = turn-is (s .n) (s .l) (s .hand) x (trackerAt (s .trackers) x) rows turn-fit len
+
+      pub turn-keeps : Keeps (s .n) (s .l) (s .t) x (s .trackers) rows (turnOf (s .n) (s .l) (s .hand) x (trackerAt (s .trackers) x) rows)
+      turn-keeps = rw turn-byPhase (keeps-byPhase (s .n) (s .t) (s .l) (s .hand) x (s .trackers) rows (f .limits-ok) (f .lined) (f .tracked) xl (f .hand-lt) rows-fit
+          (trackerAt (s .trackers) x) refl busy (trackerAt (s .trackers) x .phase) refl)
+
+      stepNo-0 : stepNo s bytes memory x ≡ 0
+      unfolding stepNo
+      stepNo-0 = rw (w, len, lt-ltb _ _ xl, busy)
+
+      -- "the public step is the core"
+      pub step-is : step s bytes memory x ≡ stepped s x (turnOf (s .n) (s .l) (s .hand) x (trackerAt (s .trackers) x) rows)
+      unfolding step
+      step-is = rw stepNo-0
+
+      pub step-sound : Sound (s .n) (s .t) (s .l) (step s bytes memory x)
+      step-sound = rw step-is (record {
+        n-is = refl;
+        t-is = refl;
+        l-is = refl;
+        is-whole = facts-whole _ (record { limits-ok = f .limits-ok; hand-lt = turn-keeps .hand-lt; lined = turn-keeps .lined; tracked = turn-keeps .tracked });
+        right = lengths-right (s .n) (s .l) _ _ (turn-keeps .bytes-long ∙ bytes-right (s .n) (s .l) bytes memory len) (turn-keeps .memory-long ∙ memory-right (s .n) (s .l) bytes memory len);
+      })
+
+      pub step-not-refused : isNo (step s bytes memory x .said) ≡ false
+      step-not-refused = rw step-is (turn-keeps .says)
+
+    pub step-idle : isIdle (trackerAt (s .trackers) x) ≡ true → step s bytes memory x ≡ refused 8 s bytes memory
+    unfolding step stepNo
+    step-idle e = rw (w, len, lt-ltb _ _ xl, e)
+
+  pub step-past : (x : ℕ) → s .t ≤ x → step s bytes memory x ≡ refused 5 s bytes memory
+  unfolding step stepNo
+  step-past x q = rw (w, len, le-ltb _ _ q)
+
+  pub step-kept : (x : ℕ) → Sound (s .n) (s .t) (s .l) (step s bytes memory x)
+  step-kept x = go (lt-or-ge x (s .t))
+    where
+      go : (x < s .t) ⊎ (s .t ≤ x) → Sound (s .n) (s .t) (s .l) (step s bytes memory x)
+      go (inl q) = ⊎-elim (λ e. rw (step-idle x q e) (refused-sound 8)) (λ e. step-sound x q e) (true-or-false (isIdle (trackerAt (s .trackers) x)))
+      go (inr q) = rw (step-past x q) (refused-sound 5)
+
+  -- issue: a law for each way out
+  module _ (x : ℕ) (write bottom : Bool) (g v : ℕ) where
+    pub issue-past : s .t ≤ x → issue s bytes memory x write bottom g v ≡ refused 5 s bytes memory
+    unfolding issue issueNo
+    issue-past q = rw (w, len, le-ltb _ _ q)
+
+    module _ (xl : x < s .t) where
+      pub issue-group : 16 * s .n ≤ g → issue s bytes memory x write bottom g v ≡ refused 6 s bytes memory
+      unfolding issue issueNo
+      issue-group q = rw (w, len, lt-ltb _ _ xl, le-ltb _ _ q)
+
+      module _ (gl : g < 16 * s .n) where
+        pub issue-busy : isIdle (trackerAt (s .trackers) x) ≡ false → issue s bytes memory x write bottom g v ≡ refused 7 s bytes memory
+        unfolding issue issueNo
+        issue-busy e = rw (w, len, lt-ltb _ _ xl, lt-ltb _ _ gl, e)
+
+        pub issue-accepted : isIdle (trackerAt (s .trackers) x) ≡ true
+            → issue s bytes memory x write bottom g v ≡ accepted (withTracker s x (issued write bottom g v)) bytes memory
+        unfolding issue issueNo
+        issue-accepted e = rw (w, len, lt-ltb _ _ xl, lt-ltb _ _ gl, e)
+
+        first-free : (b : Bool) → holdsAt (firstPhase b) ≡ false
+        first-free true = refl
+        first-free false = refl
+
+        first-ok : (b : Bool) → phaseWhole write b (firstPhase b) ≡ true
+        first-ok true = refl
+        first-ok false = refl
+
+        idle-free : (p : Phase) → isIdleAt p ≡ true → holdsAt p ≡ false
+        idle-free Idle e = refl
+        idle-free Probe e = refl
+        idle-free Map e = refl
+        idle-free Leaf e = absurd (not-both-ways e refl)
+        idle-free Set e = absurd (not-both-ways e refl)
+        idle-free Clear e = absurd (not-both-ways e refl)
+
+        xlong : x < length (s .trackers)
+        xlong = omega (arith, f .tracked .long)
+
+        issue-lined : isIdle (trackerAt (s .trackers) x) ≡ true → Lined (blocks (s .n)) (s .l) (s .t) (heldOf (s .n) (set (s .trackers) x (issued write bottom g v))) (s .lines)
+        issue-lined e = same-holds (f .lined) (λ y. by y (ℕ-discrete y x))
+          where
+            by : (y : ℕ) → Dec (y ≡ x) → heldOf (s .n) (set (s .trackers) x (issued write bottom g v)) y ≡ heldOf (s .n) (s .trackers) y
+            by y (yes q) = rw q (heldOf-no (s .n) _ x (rw (tracker-same (s .trackers) x (issued write bottom g v) xlong) (first-free bottom))
+                ∙ sym (heldOf-no (s .n) (s .trackers) x (idle-free (trackerAt (s .trackers) x .phase) e)))
+            by y (no q) = heldOf-other (s .n) (s .trackers) x y (issued write bottom g v) q
+
+        issue-sound : isIdle (trackerAt (s .trackers) x) ≡ true → Sound (s .n) (s .t) (s .l) (accepted (withTracker s x (issued write bottom g v)) bytes memory)
+        issue-sound e = record {
+          n-is = refl;
+          t-is = refl;
+          l-is = refl;
+          is-whole = facts-whole _ (record {
+            limits-ok = f .limits-ok;
+            hand-lt = f .hand-lt;
+            lined = issue-lined e;
+            tracked = tracked-set (s .n) (s .t) (s .trackers) x (issued write bottom g v) (f .tracked) xl (λ _. gl) (first-ok bottom);
+          });
+          right = len;
+        }
+
+    pub issue-kept : Sound (s .n) (s .t) (s .l) (issue s bytes memory x write bottom g v)
+    issue-kept = go (lt-or-ge x (s .t)) (lt-or-ge g (16 * s .n)) (true-or-false (isIdle (trackerAt (s .trackers) x)))
+      where
+        go : (x < s .t) ⊎ (s .t ≤ x) → (g < 16 * s .n) ⊎ (16 * s .n ≤ g) → (isIdle (trackerAt (s .trackers) x) ≡ true) ⊎ (isIdle (trackerAt (s .trackers) x) ≡ false)
+            → Sound (s .n) (s .t) (s .l) (issue s bytes memory x write bottom g v)
+        go (inr q) a b = rw (issue-past q) (refused-sound 5)
+        go (inl q) (inr a) b = rw (issue-group q a) (refused-sound 6)
+        go (inl q) (inl a) (inr b) = rw (issue-busy q a b) (refused-sound 7)
+        go (inl q) (inl a) (inl b) = rw (issue-accepted q a b) (issue-sound q a b)
+
+  few : s .t < s .l
+  few = omega (arith, l-least (s .n) (s .t) (s .l) (f .limits-ok))
+
+  fit-of : (lines : List ℕ) → s .l ≤ length lines → rowsFit (s .l) lines bytes ≡ true
+  unfolding rowsFit
+  fit-of lines q = both-true _ _ (le-leb _ _ q) (eq-eqb _ _ (bytes-right (s .n) (s .l) bytes memory len))
+
+  -- draining: the first i lines
+  module _ (idle-all : allIdle s ≡ true) where
+    none-held : (x : ℕ) → heldOf (s .n) (s .trackers) x ≡ 0
+    unfolding allIdle
+    none-held x = heldOf-no (s .n) (s .trackers) x (rests (trackerAt (s .trackers) x .phase)
+        (⊎-elim (λ q. all-at (λ y. isIdle (trackerAt (s .trackers) y)) (s .t) idle-all x q) (λ q. f .tracked .above x q) (lt-or-ge x (s .t))))
+      where
+        rests : (p : Phase) → isIdleAt p ≡ true → holdsAt p ≡ false
+        rests Idle e = refl
+        rests Probe e = refl
+        rests Map e = refl
+        rests Leaf e = absurd (not-both-ways e refl)
+        rests Set e = absurd (not-both-ways e refl)
+        rests Clear e = absurd (not-both-ways e refl)
+
+    -- nobody holds a line
+    no-holder : {lines : List ℕ} → Lined (blocks (s .n)) (s .l) (s .t) (heldOf (s .n) (s .trackers)) lines → (i : ℕ) → holder (at lines i) ≡ 0
+    no-holder {lines} v i = go (ℕ-discrete (holder (at lines i)) 0)
+      where
+        go : Dec (holder (at lines i) ≡ 0) → holder (at lines i) ≡ 0
+        go (yes e) = e
+        go (no e) = absurd (let r = v .named i (blockOf (at lines i)) (record { is-used = held-used (at lines i) (omega arith); is-block = refl }) (omega arith) in
+            let z = none-held (holder (at lines i) - 1) in let y = r .1 in omega arith)
+
+    pub record Drains (d : Rows) : Type 0 where
+      pub lined : Lined (blocks (s .n)) (s .l) (s .t) (heldOf (s .n) (s .trackers)) (d .lines)
+      pub bytes-is : d .bytes ≡ bytes
+      pub lines-long : length (d .lines) ≡ length (s .lines)
+      pub memory-long : length (d .memory) ≡ length memory
+
+    pub drains : (i : ℕ) → i ≤ s .l → Drains (drained i rows)
+    unfolding drained
+    drains zero q = record { lined = f .lined; bytes-is = refl; lines-long = refl; memory-long = refl }
+    drains (suc i) q =
+        let d : Drains (drained i rows) = drains i (omega arith) in
+        let c = at (drained i rows .lines) i in
+        let bl : blockOf (cleaned c) ≡ blockOf c = blockOf-cleaned c in
+        let fits : rowsFit (s .l) (drained i rows .lines) (drained i rows .bytes) ≡ true = subst (λ (y : List ℕ). rowsFit (s .l) (drained i rows .lines) y ≡ true) (sym (d .bytes-is)) (fit-of (drained i rows .lines) (d .lined .long)) in
+        record {
+          lined = loose-lined (d .lined) i (cleaned c) (omega arith) (no-holder (d .lined) i) (holder-cleaned c ∙ no-holder (d .lined) i)
+              (λ u. rw bl (d .lined .exists i (blockOf c) (record { is-used = sym (used-cleaned c) ∙ u; is-block = refl })))
+              (λ u j n h. n (d .lined .one j i (blockOf c) (rw bl at h) (record { is-used = sym (used-cleaned c) ∙ u; is-block = refl })));
+          bytes-is = d .bytes-is;
+          lines-long = simp length-set (d .lines-long);
+          memory-long = written-length (drained i rows) 0 (d .lined) few fits i (omega arith) ∙ d .memory-long;
+        }
+
+    drainNo-0 : drainNo s bytes memory ≡ 0
+    unfolding drainNo
+    drainNo-0 = rw (w, len, idle-all)
+
+    pub drain-is : drain s bytes memory ≡ accepted (withLines s (drained (s .l) rows .lines)) bytes (drained (s .l) rows .memory)
+    unfolding drain
+    drain-is = rw drainNo-0
+
+    pub drain-sound : Sound (s .n) (s .t) (s .l) (drain s bytes memory)
+    drain-sound =
+        let d : Drains (drained (s .l) rows) = drains (s .l) (omega arith) in
+        rw drain-is (record {
+          n-is = refl;
+          t-is = refl;
+          l-is = refl;
+          is-whole = facts-whole _ (record { limits-ok = f .limits-ok; hand-lt = f .hand-lt; lined = d .lined; tracked = f .tracked });
+          right = lengths-right (s .n) (s .l) _ _ (bytes-right (s .n) (s .l) bytes memory len) (d .memory-long ∙ memory-right (s .n) (s .l) bytes memory len);
+        })
+
+  pub drain-busy : allIdle s ≡ false → drain s bytes memory ≡ refused 7 s bytes memory
+  unfolding drain drainNo
+  drain-busy e = rw (w, len, e)
+
+  pub drain-kept : Sound (s .n) (s .t) (s .l) (drain s bytes memory)
+  drain-kept = ⊎-elim (λ e. drain-sound e) (λ e. rw (drain-busy e) (refused-sound 7)) (true-or-false (allIdle s))

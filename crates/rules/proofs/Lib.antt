@@ -1,0 +1,10 @@
+pub mod Words
+pub mod Lined
+pub mod Whole
+pub mod Placed
+pub mod Ways
+pub mod Keeps
+pub mod Calls
+pub mod Another
+pub mod Begun
+pub mod Worked

@@ -1,0 +1,230 @@
+-- A line to take always exists, since there are more lines than trackers; placing and bringing in keep the lines whole and every held line where it is.
+use mathlib.Core.Path.{_≡_, refl, sym, ap, _∙_, subst}
+use mathlib.Core.Bool.{Bool, true, false}
+use mathlib.Core.List.{List}
+use mathlib.Core.Logic.{_⊎_, inl, inr, ⊎-elim}
+use Prim.Native.Nat.{ℕ, zero, suc, _+_, _-_, _*_, _<_, _≤_}
+use native.Mathlib.Omega.{arith}
+use native.Mathlib.Decide.{ℕ-discrete}
+use lib.Dec.{eqb, ltb, leb}
+use lib.ListN.{length, getD, set, length-set, replicate, length-replicate}
+use borrow.Author.Tests.{lt-ltb, le-ltb, ltb-true, ltb-false, leb-true, leb-false, le-leb, lt-leb, eqb-true, eq-eqb}
+use Rattle.laws.specs.Choice.{pick, both, no}
+use Rattle.laws.specs.Bytes.{part, putW, fits}
+use Rattle.laws.specs.Scan.{first}
+use Rattle.laws.proofs.Choice.{not-both-ways, true-or-false, both-left, both-right, both-true, no-true, no-false}
+use Rattle.laws.proofs.Splice.{lt-or-ge}
+use Rattle.laws.proofs.Scan.{first-≤, first-holds, first-before}
+use Rattle.laws.proofs.Put.{length-part, length-putW}
+use Rattle.laws.proofs.Pigeon.{pigeon}
+use Rattle.geometry.specs.TagMemory.{blockPlace}
+use Rattle.block.specs.Block.{blockOr0}
+use Rattle.line.specs.Word.{used, blockOf, changed, holder, held, has, word}
+use Rattle.line.specs.Find.{lineOf, lowestFree, looseFrom, victim, after}
+use Rattle.rules.specs.State.{Rows}
+use Rattle.rules.specs.Place.{lineBytes, rowsFit, placeLine, placeHand, writtenBack, placeMemory, Brought, filled, withMemory, bringIn}
+use Rattle.rules.proofs.Words.{used-free, used-zero, used-word, blockOf-word, holder-word, held-holder, holder-held, loose-holder, holder-free}
+use Rattle.rules.proofs.Lined.{at, Has, Held, Lined, low, lineOf-is, lineOf-has, lineOf-none, loose-lined, has-here, has-other, at-other, holder-here}
+
+pub held-used : (w : ℕ) → 0 < holder w → used w ≡ true
+held-used w p = ⊎-elim (λ u. u) (λ u. absurd (let z : holder w ≡ 0 = ap holder (used-zero w u) ∙ holder-free in omega arith)) (true-or-false (used w))
+
+loose-test : (lines : List ℕ) (l from : ℕ) → looseFrom lines l from < l → holder (at lines (looseFrom lines l from)) ≡ 0
+unfolding looseFrom
+loose-test lines l from q = loose-holder _ (no-true _ (both-right _ _ (first-holds (λ i. both (leb from i) (no (held (getD lines i 0)))) l q)))
+
+-- nothing is loose from 0 on: every line is held
+all-held : (lines : List ℕ) (l : ℕ) → l ≤ looseFrom lines l 0 → (i : ℕ) → i < l → 0 < holder (at lines i)
+unfolding looseFrom both
+all-held lines l q i il =
+    let f : both (leb 0 i) (no (held (getD lines i 0))) ≡ false = first-before (λ j. both (leb 0 j) (no (held (getD lines j 0)))) l i (omega arith) in
+    held-holder _ (no-false _ (rw (le-leb 0 i (omega arith)) at f))
+
+free-test : (lines : List ℕ) (l : ℕ) → lowestFree lines l < l → at lines (lowestFree lines l) ≡ 0
+unfolding lowestFree
+free-test lines l q = used-zero _ (no-true _ (first-holds (λ i. no (used (getD lines i 0))) l q))
+
+victim-near : (lines : List ℕ) (l hand : ℕ) → looseFrom lines l hand < l → victim lines l hand ≡ looseFrom lines l hand
+unfolding victim
+victim-near lines l hand q = rw (lt-ltb _ _ q)
+
+victim-far : (lines : List ℕ) (l hand : ℕ) → l ≤ looseFrom lines l hand → victim lines l hand ≡ looseFrom lines l 0
+unfolding victim
+victim-far lines l hand q = rw (le-ltb _ _ q)
+
+module _ {B l t : ℕ} {H : ℕ → ℕ} {lines : List ℕ} (v : Lined B l t H lines) (few : t < l) where
+  -- each held line has a holder of its own, so not all are held
+  some-loose : looseFrom lines l 0 < l
+  some-loose = ⊎-elim (λ q. q) (λ q. absurd (crowd q)) (lt-or-ge (looseFrom lines l 0) l)
+    where
+      line-has : (i : ℕ) → 0 < holder (at lines i) → Has lines i (blockOf (at lines i))
+      line-has i p = record { is-used = held-used _ p; is-block = refl }
+
+      crowd : l ≤ looseFrom lines l 0 → ⊥
+      crowd q =
+          let r : l ≤ t = pigeon t l (λ i. holder (at lines i) - 1)
+          (λ i il. let p = all-held lines l q i il in let r = v .named i _ (line-has i p) p in let z = r .0 in omega arith)
+          (λ i j il jl e.
+          let p = all-held lines l q i il in
+          let p' = all-held lines l q j jl in
+          let r = v .named i _ (line-has i p) p in
+          let r' = v .named j _ (line-has j p') p' in
+          let y : suc (blockOf (at lines i)) ≡ suc (blockOf (at lines j)) = sym (r .1) ∙ ap H e ∙ r' .1 in
+          let b : blockOf (at lines i) ≡ blockOf (at lines j) = omega arith in
+          v .one i j _ (line-has i p) (record { is-used = held-used _ p'; is-block = sym b })) in
+          omega arith
+
+  -- "the first line at or after the hand, round the circle, that no tracker holds": there is one
+  pub victim-loose : (hand : ℕ) → (victim lines l hand < l) × (holder (at lines (victim lines l hand)) ≡ 0)
+  victim-loose hand = go (lt-or-ge (looseFrom lines l hand) l)
+    where
+      go : (looseFrom lines l hand < l) ⊎ (l ≤ looseFrom lines l hand) → (victim lines l hand < l) × (holder (at lines (victim lines l hand)) ≡ 0)
+      go (inl q) = rw (victim-near lines l hand q) (q, loose-test lines l hand q)
+      go (inr q) = rw (victim-far lines l hand q) (some-loose, loose-test lines l 0 some-loose)
+
+pub after-lt : (l i : ℕ) → i < l → after l i < l
+unfolding after
+after-lt l i q = ⊎-elim (λ (p : i + 1 < l). rw (lt-ltb _ _ p) p) (λ (p : l ≤ i + 1). rw (le-ltb _ _ p) (omega arith)) (lt-or-ge (i + 1) l)
+
+-- a law for each way out of placing
+module _ (l hand : ℕ) (lines bytes : List ℕ) (fit : rowsFit l lines bytes ≡ true) where
+  pub place-free : lowestFree lines l < l → placeLine l hand lines bytes ≡ lowestFree lines l
+  unfolding placeLine
+  place-free q = rw (fit, lt-ltb _ _ q)
+
+  pub place-victim : l ≤ lowestFree lines l → placeLine l hand lines bytes ≡ victim lines l hand
+  unfolding placeLine
+  place-victim q = rw (fit, le-ltb _ _ q)
+
+  pub hand-free : lowestFree lines l < l → placeHand l hand lines bytes ≡ hand
+  unfolding placeHand both
+  hand-free q = rw (fit, lt-leb _ _ q)
+
+  pub hand-victim : l ≤ lowestFree lines l → victim lines l hand < l → placeHand l hand lines bytes ≡ after l (victim lines l hand)
+  unfolding placeHand both
+  hand-victim q p = rw (fit, le-leb _ _ q, lt-ltb _ _ p)
+
+module _ {B l t : ℕ} {H : ℕ → ℕ} (r : Rows) (hand : ℕ) (v : Lined B l t H (r .lines)) (few : t < l) (fit : rowsFit l (r .lines) (r .bytes) ≡ true) where
+  -- placing takes a line that nobody holds
+  pub place-loose : (placeLine l hand (r .lines) (r .bytes) < l) × (holder (at (r .lines) (placeLine l hand (r .lines) (r .bytes))) ≡ 0)
+  place-loose = go (lt-or-ge (lowestFree (r .lines) l) l)
+    where
+      go : (lowestFree (r .lines) l < l) ⊎ (l ≤ lowestFree (r .lines) l)
+          → (placeLine l hand (r .lines) (r .bytes) < l) × (holder (at (r .lines) (placeLine l hand (r .lines) (r .bytes))) ≡ 0)
+      go (inl q) = rw (place-free l hand (r .lines) (r .bytes) fit q) (q, ap holder (free-test (r .lines) l q) ∙ holder-free)
+      go (inr q) = rw (place-victim l hand (r .lines) (r .bytes) fit q) (victim-loose v few hand)
+
+  pub place-hand : hand < l → placeHand l hand (r .lines) (r .bytes) < l
+  place-hand h = go (lt-or-ge (lowestFree (r .lines) l) l)
+    where
+      go : (lowestFree (r .lines) l < l) ⊎ (l ≤ lowestFree (r .lines) l) → placeHand l hand (r .lines) (r .bytes) < l
+      go (inl q) = rw (hand-free l hand (r .lines) (r .bytes) fit q) h
+      go (inr q) = rw (hand-victim l hand (r .lines) (r .bytes) fit q (victim-loose v few hand .0)) (after-lt l _ (victim-loose v few hand .0))
+
+  bytes-long : length (r .bytes) ≡ 64 * l
+  unfolding rowsFit
+  bytes-long = eqb-true _ _ (both-right _ _ fit)
+
+  pub written-length : (i : ℕ) → i < l → length (writtenBack (r .lines) (r .bytes) (r .memory) i) ≡ length (r .memory)
+  unfolding writtenBack
+  written-length i q = go (changed (getD (r .lines) i 0))
+    where
+      go : (c : Bool) → length (pick c (putW 64 (r .memory) (blockPlace (blockOf (getD (r .lines) i 0))) (lineBytes (r .bytes) i)) (r .memory)) ≡ length (r .memory)
+      go true = length-putW 64 (r .memory) _ (lineBytes (r .bytes) i) (length-part (r .bytes) (64 * i) 64 (omega (arith, bytes-long)))
+      go false = refl
+
+  pub place-memory : placeMemory l hand r ≡ writtenBack (r .lines) (r .bytes) (r .memory) (placeLine l hand (r .lines) (r .bytes))
+  unfolding placeMemory
+  place-memory = rw (lt-ltb _ _ (place-loose .0))
+
+  pub place-memory-length : length (placeMemory l hand r) ≡ length (r .memory)
+  place-memory-length = ap length place-memory ∙ written-length _ (place-loose .0)
+
+pub blockOr0-length : (m : List ℕ) (a : ℕ) → length (blockOr0 m a) ≡ 64
+unfolding blockOr0 fits
+blockOr0-length m a = ⊎-elim (λ (q : length m < a + 64). rw (lt-leb _ _ q) (length-replicate {A = ℕ} 64 0))
+    (λ (q : a + 64 ≤ length m). rw (le-leb _ _ q) (length-part m a 64 q)) (lt-or-ge (length m) (a + 64))
+
+-- block b goes into line i, which nobody holds and which has it already or no other line does
+module _ {B l t : ℕ} {H : ℕ → ℕ} {lines : List ℕ} (v : Lined B l t H lines) (i b : ℕ) (il : i < l) (z : holder (at lines i) ≡ 0)
+    (bl : b < B) (small : B < 16777215) (alone : (j : ℕ) → (j ≡ i → ⊥) → Has lines j b → ⊥) (c : Bool) where
+  fits-word : b < 16777215
+  fits-word = omega arith
+
+  pub fill-lined : Lined B l t H (set lines i (word b c 0))
+  fill-lined =
+      let e = blockOf-word b 0 fits-word (omega arith) c in
+      loose-lined v i (word b c 0) il z (holder-word b 0 fits-word (omega arith) c) (λ u. rw e bl) (λ u j n h. alone j n (rw e at h))
+
+  pub fill-has : Has (set lines i (word b c 0)) i b
+  fill-has = has-here v i (word b c 0) il b (used-word b 0 fits-word (omega arith) c) (blockOf-word b 0 fits-word (omega arith) c)
+
+  pub fill-loose : holder (at (set lines i (word b c 0)) i) ≡ 0
+  fill-loose = holder-here v i (word b c 0) il ∙ holder-word b 0 fits-word (omega arith) c
+
+  pub fill-keeps : (j : ℕ) → 0 < holder (at lines j) → at (set lines i (word b c 0)) j ≡ at lines j
+  fill-keeps j p = at-other v i (word b c 0) il j (λ q. let y : holder (at lines j) ≡ 0 = ap (λ (k : ℕ). holder (at lines k)) q ∙ z in omega arith)
+
+-- a law for each way out of bringing in
+module _ (l hand b : ℕ) (r : Rows) where
+  pub bring-found : lineOf (r .lines) l b < l → bringIn l hand b r ≡ (record { line = lineOf (r .lines) l b; hand = hand; rows = r })
+  unfolding bringIn
+  bring-found q = rw (lt-ltb _ _ q)
+
+  pub bring-placed : l ≤ lineOf (r .lines) l b → placeLine l hand (r .lines) (r .bytes) < l
+      → bringIn l hand b r ≡ (record {
+        line = placeLine l hand (r .lines) (r .bytes);
+        hand = placeHand l hand (r .lines) (r .bytes);
+        rows = filled (withMemory r (placeMemory l hand r)) (placeLine l hand (r .lines) (r .bytes)) b false (blockOr0 (placeMemory l hand r) (blockPlace b));
+      })
+  unfolding bringIn
+  bring-placed q p = rw (le-ltb _ _ q, lt-ltb _ _ p)
+
+  pub bring-none : l ≤ lineOf (r .lines) l b → l ≤ placeLine l hand (r .lines) (r .bytes) → bringIn l hand b r ≡ (record { line = l; hand = hand; rows = r })
+  unfolding bringIn
+  bring-none q p = rw (le-ltb _ _ q, le-ltb _ _ p)
+
+-- what bringing block b in gives
+pub record Brings (B l t : ℕ) (H : ℕ → ℕ) (r : Rows) (b : ℕ) (o : Brought) : Type 0 where
+  pub line-lt : o .line < l
+  pub hand-lt : o .hand < l
+  pub has-it : Has (o .rows .lines) (o .line) b
+  pub lined : Lined B l t H (o .rows .lines)
+  pub loose : (lineOf (r .lines) l b < l → holder (at (r .lines) (lineOf (r .lines) l b)) ≡ 0) → holder (at (o .rows .lines) (o .line)) ≡ 0
+  pub keeps : (j : ℕ) → 0 < holder (at (r .lines) j) → at (o .rows .lines) j ≡ at (r .lines) j
+  pub lines-long : length (o .rows .lines) ≡ length (r .lines)
+  pub bytes-long : length (o .rows .bytes) ≡ length (r .bytes)
+  pub memory-long : length (o .rows .memory) ≡ length (r .memory)
+
+module _ {B l t : ℕ} {H : ℕ → ℕ} (r : Rows) (hand b : ℕ) (v : Lined B l t H (r .lines)) (few : t < l) (fit : rowsFit l (r .lines) (r .bytes) ≡ true)
+    (hl : hand < l) (bl : b < B) (small : B < 16777215) where
+  pub brings : Brings B l t H r b (bringIn l hand b r)
+  brings = go (lt-or-ge (lineOf (r .lines) l b) l)
+    where
+      go : (lineOf (r .lines) l b < l) ⊎ (l ≤ lineOf (r .lines) l b) → Brings B l t H r b (bringIn l hand b r)
+      go (inl q) = rw (bring-found l hand b r q) (record {
+        line-lt = q;
+        hand-lt = hl;
+        has-it = lineOf-has (r .lines) l b q;
+        lined = v;
+        loose = λ f. f q;
+        keeps = λ j p. refl;
+        lines-long = refl;
+        bytes-long = refl;
+        memory-long = refl;
+      })
+      go (inr q) =
+          let p = place-loose r hand v few fit in
+          let i = placeLine l hand (r .lines) (r .bytes) in
+          let alone : (j : ℕ) → (j ≡ i → ⊥) → Has (r .lines) j b → ⊥ = (λ j n h. lineOf-none (r .lines) l b j q (low v j b h) h) in
+          rw (bring-placed l hand b r q (p .0)) (record {
+            line-lt = p .0;
+            hand-lt = place-hand r hand v few fit hl;
+            has-it = fill-has v i b (p .0) (p .1) bl small alone false;
+            lined = fill-lined v i b (p .0) (p .1) bl small alone false;
+            loose = λ f. fill-loose v i b (p .0) (p .1) bl small alone false;
+            keeps = fill-keeps v i b (p .0) (p .1) bl small alone false;
+            lines-long = length-set (r .lines) i _;
+            bytes-long = length-putW 64 (r .bytes) _ _ (blockOr0-length _ _);
+            memory-long = place-memory-length r hand v few fit;
+          })

@@ -1,0 +1,45 @@
+-- A run: any list of calls, each handed the state and the bytes that the one before handed back.
+use mathlib.Core.List.{List, [], _∷_}
+use mathlib.Core.Bool.{Bool}
+use Prim.Native.Nat.{ℕ}
+use Rattle.laws.specs.Choice.{pick}
+use Rattle.tracker.specs.Answer.{Said}
+use Rattle.rules.specs.State.{State, lengthsRight}
+use Rattle.rules.specs.Calls.{Out, issue, step, drain}
+
+-- a call with what its caller names. `lends` is the call with other lent bytes, of other lengths; where their lengths are right they are the run's own.
+pub data Call : Type 0 where
+  issues : (x : ℕ) (write bottom : Bool) (g v : ℕ) → Call
+  steps : (x : ℕ) → Call
+  drains : Call
+  lends : (bytes memory : List ℕ) → Call → Call
+
+-- what a run passes on
+pub record Kept : Type 0 where
+  pub state : State
+  pub bytes : List ℕ
+  pub memory : List ℕ
+
+abbrev pub kept : Out → Kept
+kept o = record { state = o .state; bytes = o .bytes; memory = o .memory }
+
+-- a call that lent other bytes leaves the run's own alone
+abbrev pub elsewhere : Out → Kept → Out
+elsewhere o k = record { said = o .said; state = o .state; bytes = k .bytes; memory = k .memory }
+
+unfoldable pub does : Kept → Call → Out
+does k (issues x write bottom g v) = issue (k .state) (k .bytes) (k .memory) x write bottom g v
+does k (steps x) = step (k .state) (k .bytes) (k .memory) x
+does k drains = drain (k .state) (k .bytes) (k .memory)
+does k (lends b m c) =
+    pick (lengthsRight (k .state .n) (k .state .l) b m) (does k c)
+    (elsewhere (does (record { state = k .state; bytes = b; memory = m }) c) k)
+
+-- what the calls of a run say, in order, and what it passes on at the end
+unfoldable pub answers : Kept → List Call → List Said
+answers k [] = []
+answers k (c ∷ cs) = does k c .said ∷ answers (kept (does k c)) cs
+
+unfoldable pub ended : Kept → List Call → Kept
+ended k [] = k
+ended k (c ∷ cs) = ended (kept (does k c)) cs

@@ -1,0 +1,39 @@
+-- What the rules speak of: the state, and the rows of lines, line bytes and memory that a step works on.
+use mathlib.Core.List.{List}
+use mathlib.Core.Bool.{Bool}
+use Prim.Native.Nat.{ℕ, _*_}
+use lib.Dec.{eqb}
+use lib.ListN.{length, getD, replicate}
+use Rattle.laws.specs.Choice.{both}
+use Rattle.geometry.specs.TagMemory.{memoryLength}
+use Rattle.tracker.specs.declared.Tracker.{Tracker}
+use Rattle.tracker.specs.Tracker.{idle}
+
+-- "There are T trackers .. and L lines" over n leaves; each line is a number (Rattle.line.specs.Word)
+pub record State : Type 0 where
+  pub n : ℕ
+  pub t : ℕ
+  pub l : ℕ
+  pub hand : ℕ
+  pub lines : List ℕ
+  pub trackers : List Tracker
+
+pub record Rows : Type 0 where
+  pub lines : List ℕ
+  pub bytes : List ℕ
+  pub memory : List ℕ
+
+abbrev pub trackerAt : List Tracker → ℕ → Tracker
+trackerAt ts x = getD ts x idle
+
+-- "The line bytes are a lent buffer of 64 x L", and memory has its length
+unfoldable pub lengthsRight : ℕ → ℕ → List ℕ → List ℕ → Bool
+lengthsRight n l bytes memory = both (eqb (length bytes) (64 * l)) (eqb (length memory) (memoryLength n))
+
+-- "After fresh and open every line is free, every tracker idle, and their other fields zero"; "The hand starts at 0."
+abbrev pub begun : ℕ → ℕ → ℕ → State
+begun n t l = record { n = n; t = t; l = l; hand = 0; lines = replicate 64 0; trackers = replicate 8 idle }
+
+-- "refused, they return one that is zero throughout"
+abbrev pub zeroState : State
+zeroState = begun 0 0 0

@@ -1,0 +1,61 @@
+-- 01 "A state is whole when ..", in its order.
+use mathlib.Core.List.{List}
+use mathlib.Core.Bool.{Bool, true, false}
+use Prim.Native.Nat.{ℕ, _+_, _-_, _*_}
+use lib.Dec.{eqb, ltb, leb}
+use lib.ListN.{length, getD}
+use Rattle.laws.specs.Choice.{both, implies, no}
+use Rattle.laws.specs.Scan.{all}
+use Rattle.geometry.specs.TagMemory.{inLimits, leafOf, mapBlockOf, blocks}
+use Rattle.tracker.specs.declared.Phase.{Phase}
+use Rattle.tracker.specs.declared.Phase.the-variants.{Idle, Probe, Map, Leaf, Set, Clear}
+use Rattle.tracker.specs.declared.Tracker.{Tracker}
+use Rattle.tracker.specs.Tracker.{isIdle, isIdleAt, holdsAt}
+use Rattle.line.specs.Word.{used, blockOf, holder, held}
+use Rattle.line.specs.Find.{lineOf}
+use Rattle.rules.specs.State.{State, trackerAt}
+
+-- "There are T trackers, 1 to 8, and L lines, T + 1 to 64."
+unfoldable pub limits : ℕ → ℕ → ℕ → Bool
+limits n t l = both (inLimits n) (both (both (leb 1 t) (leb t 8)) (both (leb (t + 1) l) (leb l 64)))
+
+-- the map block of a group, in a memory of n leaves
+abbrev pub mapBlock : ℕ → ℕ → ℕ
+mapBlock n g = n + mapBlockOf (leafOf g)
+
+-- tracker x holds block b: it is at Leaf or Finish and b is its own group's map block
+unfoldable pub holds : ℕ → Tracker → ℕ → Bool
+holds n t b = both (holdsAt (t .phase)) (eqb (mapBlock n (t .group)) b)
+
+-- "lined blocks exist and no block has two lines", and a line that names a holder names a tracker that holds its block: of line i
+unfoldable pub lineWhole : State → ℕ → Bool
+lineWhole s i =
+    let w = getD (s .lines) i 0 in
+    implies (used w)
+    (both (both (ltb (blockOf w) (blocks (s .n))) (eqb (lineOf (s .lines) (s .l) (blockOf w)) i))
+    (implies (held w) (both (leb (holder w) (s .t)) (holds (s .n) (trackerAt (s .trackers) (holder w - 1)) (blockOf w)))))
+
+-- "a tracker at Probe is bottom-up and one at Finish is a write"
+abbrev pub phaseWhole : (write bottom : Bool) → Phase → Bool
+phaseWhole write bottom Idle = true
+phaseWhole write bottom Probe = bottom
+phaseWhole write bottom Map = true
+phaseWhole write bottom Leaf = true
+phaseWhole write bottom Set = write
+phaseWhole write bottom Clear = write
+
+-- "busy groups are below 16n", the phase is as it must be, and "each held map block is in a line", which names its holder: of tracker x
+unfoldable pub trackerWhole : State → ℕ → Bool
+trackerWhole s x =
+    let t = trackerAt (s .trackers) x in
+    let i = lineOf (s .lines) (s .l) (mapBlock (s .n) (t .group)) in
+    both (both (implies (no (isIdle t)) (ltb (t .group) (16 * s .n))) (phaseWhole (t .write) (t .bottom) (t .phase)))
+    (implies (holdsAt (t .phase)) (both (ltb i (s .l)) (eqb (holder (getD (s .lines) i 0)) (x + 1))))
+
+unfoldable pub whole : State → Bool
+whole s =
+    both (both (limits (s .n) (s .t) (s .l)) (ltb (s .hand) (s .l)))
+    (both (both (leb (s .l) (length (s .lines))) (leb (s .t) (length (s .trackers))))
+    (both (both (all (λ i. implies (leb (s .l) i) (no (used (getD (s .lines) i 0)))) (length (s .lines)))
+    (all (λ x. implies (leb (s .t) x) (isIdle (trackerAt (s .trackers) x))) (length (s .trackers))))
+    (both (all (lineWhole s) (s .l)) (all (trackerWhole s) (s .t)))))

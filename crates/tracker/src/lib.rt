@@ -1,0 +1,124 @@
+// 01 "One step of a tracker": a tracker's phase and fields, and what a call answers.
+// Structs and enums by value; no public function has a `requires`.
+ghost use mathlib.Core.Path.{_≡_};
+ghost use Rattle.tracker.specs.Tracker.{idle, firstPhase, issued, goesTo, counted, tick, isIdle};
+ghost use Rattle.laws.specs.Choice.{pick};
+
+// Where a tracker stands. Finish is two: Set and Clear, by what it does to the bit.
+pub enum Phase {
+    Idle,
+    Probe,
+    Map,
+    Leaf,
+    Set,
+    Clear,
+}
+
+// One access under way; `bottom` stays after Probe. An idle tracker that ended has every field zero.
+pub struct Tracker {
+    pub phase: Phase,
+    pub write: bool,
+    pub bottom: bool,
+    pub group: u32,
+    pub value: u32,
+    pub turns: u16,
+}
+
+// What a call answers. `Read` carries the group and the turns, `Done` and `Same` the turns, `No` the refusal.
+pub enum Answer {
+    Accepted,
+    Wait,
+    Moved,
+    Read(u32, u16),
+    Done(u16),
+    Same(u16),
+    No(u8),
+}
+
+// One turn more; it stays at 65,535 once there.
+pub fn one_more(turns: u16) -> u16
+    ensures { λ r. ⌜ r ≡ tick turns ⌝ }
+{
+    if turns < 65535 { turns + 1 } else { 65535 }
+}
+
+// Where an access begins.
+fn first_phase(bottom: bool) -> Phase
+    ensures { λ r. ⌜ r ≡ firstPhase bottom ⌝ }
+{
+    if bottom { Phase::Probe } else { Phase::Map }
+}
+
+// The value of a write; a read has none, and keeps 0.
+fn written(write: bool, v: u32) -> u32
+    ensures { λ r. ⌜ r ≡ pick write v 0 ⌝ }
+{
+    if write { v } else { 0 }
+}
+
+impl Tracker {
+    // A tracker with no access: every field zero.
+    pub fn rest() -> Tracker
+        ensures { λ r. ⌜ r ≡ idle ⌝ }
+    {
+        Tracker {
+            phase: Phase::Idle,
+            write: false,
+            bottom: false,
+            group: 0,
+            value: 0,
+            turns: 0,
+        }
+    }
+
+    // A read, or a write of v, of group g, at its first phase.
+    pub fn begin(write: bool, bottom: bool, g: u32, v: u32) -> Tracker
+        ensures { λ r. ⌜ r ≡ issued write bottom g v ⌝ }
+    {
+        Tracker {
+            phase: first_phase(bottom),
+            write,
+            bottom,
+            group: g,
+            value: written(write, v),
+            turns: 0,
+        }
+    }
+
+    // The tracker at another phase, one turn more.
+    pub fn go_to(self, phase: Phase) -> Tracker
+        ensures { λ r. ⌜ r ≡ goesTo self phase ⌝ }
+    {
+        Tracker {
+            phase,
+            write: self.write,
+            bottom: self.bottom,
+            group: self.group,
+            value: self.value,
+            turns: one_more(self.turns),
+        }
+    }
+
+    // The tracker where it is, one turn more.
+    pub fn count(self) -> Tracker
+        ensures { λ r. ⌜ r ≡ counted self ⌝ }
+    {
+        let phase = self.phase;
+        self.go_to(phase)
+    }
+
+    // The tracker has no access.
+    pub fn is_idle(self) -> bool
+        ensures { λ r. ⌜ r ≡ isIdle self ⌝ }
+    {
+        let phase = self.phase;
+        match phase {
+            Phase::Idle => true,
+            Phase::Probe => false,
+            Phase::Map => false,
+            Phase::Leaf => false,
+            Phase::Set => false,
+            Phase::Clear => false,
+        }
+    }
+}
