@@ -1,0 +1,13 @@
+pub mod Round
+pub mod Lock
+pub mod Bound
+pub mod Levels
+pub mod TwoLevels
+pub mod ByTable
+pub mod Becomes
+pub mod Ready
+pub mod Calls
+pub mod Link
+pub mod LongestWait
+pub mod Reached
+pub mod Count

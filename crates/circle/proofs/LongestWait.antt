@@ -1,0 +1,287 @@
+-- DEMAND 3, proved: what the circle passes on is ready, and its trackers keep the promises of the two levels.
+use mathlib.Core.Path.{_≡_, refl, sym, ap, _∙_, subst}
+use mathlib.Core.Logic.{_≢_}
+use mathlib.Core.Bool.{Bool, true, false}
+use mathlib.Core.List.{List}
+use Prim.Native.Nat.{ℕ, zero, suc, _<_, _≤_, min}
+use native.Mathlib.Omega.{arith}
+use native.Mathlib.Decide.{ℕ-discrete}
+use borrow.Author.Tests.{eqb-true, eq-eqb}
+use Rattle.laws.proofs.Choice.{not-both-ways, both-left, both-right, both-true}
+use Rattle.tracker.specs.declared.Phase.{Phase}
+use Rattle.tracker.specs.declared.Phase.the-variants.{Idle, Probe, Map, Leaf, Set, Clear}
+use Rattle.tracker.specs.declared.Tracker.{Tracker}
+use Rattle.tracker.specs.Tracker.{isIdle, isIdleAt, holdsAt}
+use Rattle.tracker.specs.Tracker as Tracker
+use Rattle.tracker.specs.Answer.{Said, ok}
+use Rattle.rules.specs.State.{trackerAt}
+use Rattle.rules.specs.Whole.{mapBlock, holds}
+use Rattle.rules.specs.Calls.{Out}
+use Rattle.rules.specs.Run.{issues, steps, drains, Kept, kept, does}
+use Rattle.circle.specs.Order.{next, Order}
+use Rattle.circle.specs.Table.{Move, waits, to, ends, rule}
+use Rattle.circle.specs.LastTurn.{bound, lastTurn}
+use Rattle.circle.specs.Ending.{Ending}
+use Rattle.circle.specs.Circle.{trackerIn, becomes, Circle, begins, turns, passes, issued, drained, refused}
+use Rattle.circle.specs.LongestWait.{InTime, LongestWait}
+use Rattle.circle.proofs.Levels.{rests, before, Access, promises-begin, promises-issue, promises-turn, promises-over, promises-within, dueNow}
+use Rattle.circle.proofs.Levels as Levels
+use Rattle.circle.proofs.TwoLevels.{stand, twoLevels, fits, lastTurn-is}
+use Rattle.circle.proofs.ByTable.{Moved}
+use Rattle.circle.proofs.Ready.{Ready, issue-keeps, step-keeps, drain-keeps, never-refused}
+use Rattle.circle.proofs.Calls.{Outcome, outcome, ok-not-no, refused-same}
+use Rattle.circle.proofs.Calls as Calls
+use Rattle.circle.proofs.Link.{Anew, anew, Stepped, by-table, still-busy, tick-min, ending-counts}
+use Rattle.circle.proofs.Becomes.{becomes-same, becomes-other}
+
+-- a tracker as the levels see it
+abbrev accessOf : ℕ → Tracker → Access Phase
+accessOf n t = record { at = t .phase; write = t .write; lock = mapBlock n (t .group) }
+
+abbrev accesses : Kept → ℕ → Access Phase
+accesses k x = accessOf (k .state .n) (trackerIn k x)
+
+-- what rests is idle
+busy-stands : (write : Bool) (p : Phase) → isIdleAt p ≡ false → stand write p ≢ rests
+busy-stands write Idle b e = not-both-ways refl b
+busy-stands write Probe b e = let z : _≡_ {A = ℕ} 0 1 = cc in omega arith
+busy-stands write Map b e = let z : _≡_ {A = ℕ} 0 1 = cc in omega arith
+busy-stands write Leaf b e = let z : _≡_ {A = ℕ} 0 1 = cc in omega arith
+busy-stands write Set b e = let z : _≡_ {A = ℕ} 0 1 = cc in omega arith
+busy-stands write Clear b e = let z : _≡_ {A = ℕ} 0 1 = cc in omega arith
+
+idle-rests : (write : Bool) (p : Phase) → isIdleAt p ≡ true → stand write p ≡ rests
+idle-rests write Idle b = refl
+idle-rests write Probe b = absurd (not-both-ways b refl)
+idle-rests write Map b = absurd (not-both-ways b refl)
+idle-rests write Leaf b = absurd (not-both-ways b refl)
+idle-rests write Set b = absurd (not-both-ways b refl)
+idle-rests write Clear b = absurd (not-both-ways b refl)
+
+-- who asks is at Map
+asks-map : (write : Bool) (p : Phase) → stand write p ≡ before 0 → p ≡ Map
+asks-map write Idle e = absurd (let z : _≡_ {A = ℕ} 0 1 = cc in omega arith)
+asks-map write Probe e = absurd (let z : _≡_ {A = ℕ} 1 0 = cc in omega arith)
+asks-map write Map e = refl
+asks-map write Leaf e = absurd (let z : _≡_ {A = ℕ} 0 1 = cc in omega arith)
+asks-map write Set e = absurd (let z : _≡_ {A = ℕ} 0 1 = cc in omega arith)
+asks-map write Clear e = absurd (let z : _≡_ {A = ℕ} 0 1 = cc in omega arith)
+
+holds-has : (n : ℕ) (t : Tracker) (b : ℕ) → holds n t b ≡ true → (holdsAt (t .phase) ≡ true) × (b ≡ mapBlock n (t .group))
+unfolding holds
+holds-has n t b h = (both-left _ _ h, sym (eqb-true _ _ (both-right _ _ h)))
+
+has-holds : (n : ℕ) (t : Tracker) (b : ℕ) → (holdsAt (t .phase) ≡ true) × (b ≡ mapBlock n (t .group)) → holds n t b ≡ true
+unfolding holds
+has-holds n t b h = both-true _ _ (h .0) (eq-eqb _ _ (sym (h .1)))
+
+-- what a move of the table leaves of a tracker
+left-of : (n : ℕ) (t t' : Tracker) (m : Move Phase) (said : Said) → Moved t m said t' → Levels.Left 1 twoLevels 0 (accessOf n t) m (accessOf n t')
+left-of n t t' waits said h = ap (accessOf n) (h .1)
+left-of n t t' (to p) said h = ap (accessOf n) (h .1)
+left-of n t t' ends said h = rw (h .1) refl
+
+module _ (M : ℕ) (o : Order (suc M)) where
+  -- every promise of a state under the circle
+  record Keeps (k : Kept) (i : ℕ) (given : ℕ → ℕ) (under : ℕ → Bool) : Type 0 where
+    ready : Ready k
+    count : k .state .t ≡ suc M
+    due : ℕ → ℕ
+    promises : Levels.Promises 1 twoLevels M o (accesses k) given due i
+    promised : (x : ℕ) → x < suc M → under x ≡ true → isIdle (trackerIn k x) ≡ false → due x ≡ bound 2 (suc M) (trackerIn k x .write) (trackerIn k x .bottom)
+    counted : (x : ℕ) → x < suc M → under x ≡ true → isIdle (trackerIn k x) ≡ false → trackerIn k x .turns ≡ min (given x) 65535
+
+  keeps-begin : (k : Kept) (i : ℕ) (given : ℕ → ℕ) → k .state .t ≡ suc M → Ready k → i < suc M → Keeps k i given (λ x. false)
+  keeps-begin k i given c s h = record {
+    ready = s;
+    count = c;
+    due = dueNow 1 twoLevels M o (accesses k) given;
+    promises = promises-begin 1 twoLevels M o (accesses k) given i h;
+    promised = λ x hx u b. absurd (not-both-ways u refl);
+    counted = λ x hx u b. absurd (not-both-ways u refl);
+  }
+
+  module _ (k : Kept) (i : ℕ) (given : ℕ → ℕ) (under : ℕ → Bool) (K : Keeps k i given under) where
+    below : (x : ℕ) → x < suc M → x < k .state .t
+    below x h = let c = K .count in omega arith
+
+    keeps-over : isIdle (trackerIn k (o .tracker i)) ≡ true → Keeps k (next (suc M) i) given under
+    keeps-over e = record {
+      ready = K .ready;
+      count = K .count;
+      due = K .due;
+      promises = promises-over 1 twoLevels M o (accesses k) given (K .due) i (K .promises) (idle-rests (trackerIn k (o .tracker i) .write) (trackerIn k (o .tracker i) .phase) e);
+      promised = K .promised;
+      counted = K .counted;
+    }
+
+    issue-at : (o' : Out) (x : ℕ) (write bottom : Bool) (g v : ℕ) → Outcome k (issues x write bottom g v) o' → o' .said ≡ ok
+        → (x < suc M) × (isIdle (trackerIn k x) ≡ true) × Anew k (kept o') x (Tracker.issued write bottom g v)
+    issue-at o' x write bottom g v (Calls.refused r q z) e = absurd (ok-not-no (sym e ∙ q))
+    issue-at o' x write bottom g v (Calls.issued x' write' bottom' g' v' p q is) e =
+        let l : x < suc M = let c = K .count in omega arith in
+        (l, q, anew k (kept o') x (Tracker.issued write bottom g v) (K .ready) p (ap (λ (a : Out). a .state .n) is) (ap (λ (a : Out). a .state .t) is) (ap (λ (a : Out). a .state .trackers) is))
+
+    keeps-issue : (x : ℕ) (write bottom : Bool) (g v : ℕ) → does k (issues x write bottom g v) .said ≡ ok
+        → Keeps (kept (does k (issues x write bottom g v))) i (becomes given x 0) (becomes under x true)
+    keeps-issue x write bottom g v e = record {
+      ready = issue-keeps k (K .ready) x write bottom g v;
+      count = a .count ∙ K .count;
+      due = due';
+      promises =
+          promises-issue 1 twoLevels M o (accesses k) (accesses k') given (becomes given x 0) (K .due) due' i x (mapBlock (k .state .n) g) write bottom (K .promises) hx
+          (idle-rests (trackerIn k x .write) (trackerIn k x .phase) (r .1)) (rw (a .leaves, a .own) refl) (becomes-same given x 0) (becomes-same (K .due) x last)
+          (λ y ne. (rw (a .leaves, a .other y ne) refl, becomes-other given x y 0 ne, becomes-other (K .due) x y last ne));
+      promised = λ y hy u b. promised' y hy u b (ℕ-discrete y x);
+      counted = λ y hy u b. counted' y hy u b (ℕ-discrete y x);
+    }
+      where
+        k' : Kept
+        k' = kept (does k (issues x write bottom g v))
+
+        r : (x < suc M) × (isIdle (trackerIn k x) ≡ true) × Anew k k' x (Tracker.issued write bottom g v)
+        r = issue-at (does k (issues x write bottom g v)) x write bottom g v (outcome k (K .ready) (issues x write bottom g v)) e
+
+        hx : x < suc M
+        hx = r .0
+
+        a : Anew k k' x (Tracker.issued write bottom g v)
+        a = r .2
+
+        last : ℕ
+        last = bound 2 (suc M) write bottom
+
+        due' : ℕ → ℕ
+        due' = becomes (K .due) x last
+
+        promised' : (y : ℕ) → y < suc M → becomes under x true y ≡ true → isIdle (trackerIn k' y) ≡ false → Dec (y ≡ x)
+            → due' y ≡ bound 2 (suc M) (trackerIn k' y .write) (trackerIn k' y .bottom)
+        promised' y hy u b (yes q) = rw (q, a .own) (becomes-same (K .due) x last)
+        promised' y hy u b (no ne) = rw (a .other y ne, becomes-other (K .due) x y last ne)
+            (K .promised y hy (sym (becomes-other under x y true ne) ∙ u) (sym (ap isIdle (a .other y ne)) ∙ b))
+
+        counted' : (y : ℕ) → y < suc M → becomes under x true y ≡ true → isIdle (trackerIn k' y) ≡ false → Dec (y ≡ x)
+            → trackerIn k' y .turns ≡ min (becomes given x 0 y) 65535
+        counted' y hy u b (yes q) = rw (q, a .own, becomes-same given x 0) (omega arith)
+        counted' y hy u b (no ne) = rw (a .other y ne, becomes-other given x y 0 ne)
+            (K .counted y hy (sym (becomes-other under x y true ne) ∙ u) (sym (ap isIdle (a .other y ne)) ∙ b))
+
+    keeps-turn : isIdle (trackerIn k (o .tracker i)) ≡ false
+        → Keeps (kept (does k (steps (o .tracker i)))) (next (suc M) i) (becomes given (o .tracker i) (suc (given (o .tracker i)))) under
+    keeps-turn busy = record {
+      ready = step-keeps k (K .ready) x;
+      count = a .count ∙ K .count;
+      due = K .due;
+      promises =
+          promises-turn 1 twoLevels M o (accesses k) (accesses k') given given' (K .due) i (r .held) m (K .promises)
+          (busy-stands (t .write) (t .phase) busy) (fits (r .held) (r .quit) (r .empty) (t .write) (t .phase))
+          (rw (a .leaves, a .own) (left-of (k .state .n) t (r .left) m (does k (steps x) .said) (r .by-rule)))
+          holder free (becomes-same given x (suc (given x)))
+          (λ y ne. (rw (a .leaves, a .other y ne) refl, becomes-other given x y (suc (given x)) ne, refl));
+      promised = λ y hy u b. promised' y hy u b (ℕ-discrete y x);
+      counted = λ y hy u b. counted' y hy u b (ℕ-discrete y x);
+    }
+      where
+        x : ℕ
+        x = o .tracker i
+
+        hx : x < suc M
+        hx = o .tracker-below i (K .promises .place)
+
+        t : Tracker
+        t = trackerIn k x
+
+        k' : Kept
+        k' = kept (does k (steps x))
+
+        given' : ℕ → ℕ
+        given' = becomes given x (suc (given x))
+
+        r : Stepped k x
+        r = by-table k (K .ready) x (below x hx) busy
+
+        a : Anew k k' x (r .left)
+        a = r .made
+
+        m : Move Phase
+        m = rule (r .held) (r .quit) (r .empty) (t .write) (t .phase)
+
+        holder : stand (t .write) (t .phase) ≡ before 0 → r .held ≡ true
+            → (y : ℕ) × (y < suc M) × (y ≢ x) × Levels.Has 1 twoLevels M (accesses k y) (mapBlock (k .state .n) (t .group))
+        holder z h =
+            let q = r .held-is (asks-map (t .write) (t .phase) z) h in
+            let l : q .who < suc M = let e = q .who-lt in let c = K .count in omega arith in
+            (q .who, l, q .not-x, holds-has (k .state .n) (trackerIn k (q .who)) (mapBlock (k .state .n) (t .group)) (q .holds-it))
+
+        free : stand (t .write) (t .phase) ≡ before 0 → r .held ≡ false
+            → (y : ℕ) → y < suc M → y ≢ x → Levels.Has 1 twoLevels M (accesses k y) (mapBlock (k .state .n) (t .group)) → ⊥
+        free z h y hy ne q =
+            r .free-is (asks-map (t .write) (t .phase) z) h
+            (record { who = y; who-lt = below y hy; not-x = ne; holds-it = has-holds (k .state .n) (trackerIn k y) (mapBlock (k .state .n) (t .group)) q })
+
+        promised' : (y : ℕ) → y < suc M → under y ≡ true → isIdle (trackerIn k' y) ≡ false → Dec (y ≡ x)
+            → K .due y ≡ bound 2 (suc M) (trackerIn k' y .write) (trackerIn k' y .bottom)
+        promised' y hy u b (yes q) =
+            let s = still-busy t (r .left) m (does k (steps x) .said) (r .by-rule) (sym (ap isIdle (a .own)) ∙ subst (λ (z : ℕ). isIdle (trackerIn k' z) ≡ false) q b) in
+            rw (q, a .own, s .write, s .bottom) (K .promised x hx (subst (λ (z : ℕ). under z ≡ true) q u) busy)
+        promised' y hy u b (no ne) = rw (a .other y ne) (K .promised y hy u (sym (ap isIdle (a .other y ne)) ∙ b))
+
+        counted' : (y : ℕ) → y < suc M → under y ≡ true → isIdle (trackerIn k' y) ≡ false → Dec (y ≡ x) → trackerIn k' y .turns ≡ min (given' y) 65535
+        counted' y hy u b (yes q) =
+            let s = still-busy t (r .left) m (does k (steps x) .said) (r .by-rule) (sym (ap isIdle (a .own)) ∙ subst (λ (z : ℕ). isIdle (trackerIn k' z) ≡ false) q b) in
+            rw (q, a .own, s .turns, becomes-same given x (suc (given x))) (tick-min (t .turns) (given x) (K .counted x hx (subst (λ (z : ℕ). under z ≡ true) q u) busy))
+        counted' y hy u b (no ne) = rw (a .other y ne, becomes-other given x y (suc (given x)) ne) (K .counted y hy u (sym (ap isIdle (a .other y ne)) ∙ b))
+
+    -- the same trackers
+    keeps-same : (k' : Kept) → Ready k' → k' .state .n ≡ k .state .n → k' .state .t ≡ k .state .t → k' .state .trackers ≡ k .state .trackers → Keeps k' i given under
+    keeps-same k' s n c e = record {
+      ready = s;
+      count = c ∙ K .count;
+      due = K .due;
+      promises = subst (λ (s : ℕ → Access Phase). Levels.Promises 1 twoLevels M o s given (K .due) i) same (K .promises);
+      promised = λ y hy u b. rw e (K .promised y hy u (rw e at b));
+      counted = λ y hy u b. rw e (K .counted y hy u (rw e at b));
+    }
+      where
+        same : accesses k ≡ accesses k'
+        same =
+            sym (ap (λ (n : ℕ). λ (y : ℕ). accessOf n (trackerIn k' y)) n
+            ∙ ap (λ (ts : List Tracker). λ (y : ℕ). accessOf (k .state .n) (trackerAt ts y)) e)
+
+    drain-at : (o' : Out) → Outcome k drains o' → o' .said ≡ ok → Ready (kept o') → Keeps (kept o') i given under
+    drain-at o' (Calls.refused r q z) e s = absurd (ok-not-no (sym e ∙ q))
+    drain-at o' (Calls.drained lines memory is) e s =
+        keeps-same (kept o') s (ap (λ (a : Out). a .state .n) is) (ap (λ (a : Out). a .state .t) is) (ap (λ (a : Out). a .state .trackers) is)
+
+  keeps : {k : Kept} {i : ℕ} {given : ℕ → ℕ} {under : ℕ → Bool} → Circle (suc M) o k i given under → Keeps k i given under
+  keeps (begins k i given c w l h) = keeps-begin k i given c (w, l) h
+  keeps (turns {k = k} {i = i} {given = given} {under = under} r b) = keeps-turn k i given under (keeps r) b
+  keeps (passes {k = k} {i = i} {given = given} {under = under} r b) = keeps-over k i given under (keeps r) b
+  keeps (issued {k = k} {i = i} {given = given} {under = under} r x write bottom g v e) = keeps-issue k i given under (keeps r) x write bottom g v e
+  keeps (drained {k = k} {i = i} {given = given} {under = under} r e) = let K = keeps r in drain-at k i given under K (does k drains) (outcome k (K .ready) drains) e (drain-keeps k (K .ready))
+  keeps (refused {k = k} {i = i} {given = given} {under = under} r c n e) =
+      let K = keeps r in subst (λ (k' : Kept). Keeps k' i given under) (sym (refused-same k (K .ready) c n e)) K
+
+  in-time : (k : Kept) (i : ℕ) (given : ℕ → ℕ) (under : ℕ → Bool) → Keeps k i given under → InTime (suc M) k given under
+  in-time k i given under K = record {
+    busy = within;
+    ending = λ x said h u e. ending-at (does k (steps x)) x said (outcome k (K .ready) (steps x)) h u e refl;
+    accepted = λ x c h b e. never-refused k (K .ready) x c (below k i given under K x h) b e;
+  }
+    where
+      within : (x : ℕ) → x < suc M → under x ≡ true → isIdle (trackerIn k x) ≡ false → given x < lastTurn (suc M) (trackerIn k x .write) (trackerIn k x .bottom)
+      within x h u b =
+          let l : given x < K .due x = promises-within 1 twoLevels M o (accesses k) given (K .due) i (K .promises) x h (busy-stands (trackerIn k x .write) (trackerIn k x .phase) b) in
+          let p = K .promised x h u b in
+          let q = lastTurn-is M (trackerIn k x .write) (trackerIn k x .bottom) in
+          omega arith
+
+      ending-at : (o' : Out) (x said : ℕ) → Outcome k (steps x) o' → x < suc M → under x ≡ true → Ending (does k (steps x) .said) said → o' .said ≡ does k (steps x) .said
+          → (said ≡ min (suc (given x)) 65535) × (suc (given x) ≤ lastTurn (suc M) (trackerIn k x .write) (trackerIn k x .bottom))
+      ending-at o' x said (Calls.refused r q z) h u e same = absurd (subst (λ (a : Said). Ending a said) (sym same ∙ q) e)
+      ending-at o' x said (Calls.stepped x' p b) h u e same = (ending-counts k x said (given x) (by-table k (K .ready) x p b) e (K .counted x h u b), within x h u b)
+
+-- DEMAND 3
+pub longest-wait : LongestWait
+longest-wait zero o k i given under r = record { busy = λ x h u b. absurd (omega arith); ending = λ x said h u e. absurd (omega arith); accepted = λ x c h b e. omega arith }
+longest-wait (suc M) o k i given under r = in-time M o k i given under (keeps M o r)

@@ -1,0 +1,64 @@
+-- What a run under way can rely on: a whole state with the lengths right, which every call keeps; a busy tracker's step is never refused, and Map waits exactly under another's hold.
+use mathlib.Core.Path.{_≡_, ap}
+use mathlib.Core.Bool.{Bool, true, false}
+use Prim.Native.Nat.{ℕ, _<_, _≤_}
+use lib.ListN.{length}
+use borrow.Author.Tests.{ltb-true, lt-ltb}
+use Rattle.laws.proofs.Choice.{not-both-ways, both-left, both-right, both-true}
+use Rattle.tracker.specs.declared.Phase.the-variants.{Map}
+use Rattle.tracker.specs.Tracker.{isIdle, holdsAt}
+use Rattle.tracker.specs.Answer.{no}
+use Rattle.rules.specs.State.{lengthsRight}
+use Rattle.rules.specs.Whole.{mapBlock, whole}
+use Rattle.rules.specs.Calls.{Out}
+use Rattle.rules.specs.Run.{issues, steps, drains, Kept, kept, does}
+use Rattle.rules.proofs.Whole.{whole-facts}
+use Rattle.rules.proofs.Keeps.{isNo}
+use Rattle.rules.proofs.Calls.{issue-kept, step-kept, drain-kept, step-not-refused}
+use Rattle.rules.proofs.Calls as Calls
+use Rattle.rules.proofs.Another.{Another, named-another, another-named}
+use Rattle.circle.specs.Circle.{trackerIn}
+use Rattle.circle.proofs.ByTable.{lockHeld}
+
+-- the lengths are right
+abbrev pub right : Kept → Bool
+right k = lengthsRight (k .state .n) (k .state .l) (k .bytes) (k .memory)
+
+abbrev pub Ready : Kept → Type 0
+Ready k = (whole (k .state) ≡ true) × (right k ≡ true)
+
+ready-out : (n t l : ℕ) (o : Out) → Calls.Sound n t l o → Ready (kept o)
+ready-out n t l o h = (h .is-whole, rw (h .n-is, h .l-is) (h .right))
+
+module _ (k : Kept) (s : Ready k) where
+  pub long : k .state .t ≤ length (k .state .trackers)
+  long = whole-facts (k .state) (s .0) .tracked .long
+
+  pub issue-keeps : (x : ℕ) (write bottom : Bool) (g v : ℕ) → Ready (kept (does k (issues x write bottom g v)))
+  unfolding does
+  issue-keeps x write bottom g v = ready-out _ _ _ _ (issue-kept (k .state) (k .bytes) (k .memory) (s .0) (s .1) x write bottom g v)
+
+  pub step-keeps : (x : ℕ) → Ready (kept (does k (steps x)))
+  unfolding does
+  step-keeps x = ready-out _ _ _ _ (step-kept (k .state) (k .bytes) (k .memory) (s .0) (s .1) x)
+
+  pub drain-keeps : Ready (kept (does k drains))
+  unfolding does
+  drain-keeps = ready-out _ _ _ _ (drain-kept (k .state) (k .bytes) (k .memory) (s .0) (s .1))
+
+  -- A busy tracker's step is never refused.
+  pub never-refused : (x c : ℕ) → x < k .state .t → isIdle (trackerIn k x) ≡ false → does k (steps x) .said ≡ no c → ⊥
+  unfolding does
+  never-refused x c h b e = not-both-ways (ap isNo e) (step-not-refused (k .state) (k .bytes) (k .memory) (s .0) (s .1) x h b)
+
+  -- At Map: the map block's line names a holder exactly if another tracker holds it.
+  module _ (x : ℕ) (at-map : trackerIn k x .phase ≡ Map) where
+    pub another : lockHeld (k .state .n) (k .state .l) (k .state .lines) (trackerIn k x .group) ≡ true → Another (k .state) x (mapBlock (k .state .n) (trackerIn k x .group))
+    another h =
+        named-another (k .state) (whole-facts (k .state) (s .0)) x (mapBlock (k .state .n) (trackerIn k x .group)) (ap holdsAt at-map)
+        (ltb-true _ _ (both-left _ _ h)) (both-right _ _ h)
+
+    pub nobody : lockHeld (k .state .n) (k .state .l) (k .state .lines) (trackerIn k x .group) ≡ false → Another (k .state) x (mapBlock (k .state .n) (trackerIn k x .group)) → ⊥
+    nobody h a =
+        let r = another-named (k .state) (whole-facts (k .state) (s .0)) x (mapBlock (k .state .n) (trackerIn k x .group)) a in
+        not-both-ways (both-true _ _ (lt-ltb _ _ (r .0)) (r .1)) h

@@ -1,0 +1,86 @@
+-- The table holds: each case by the law of its call's way out.
+use mathlib.Core.Path.{_≡_, refl, sym, _∙_}
+use mathlib.Core.Bool.{Bool, true, false}
+use mathlib.Core.List.{List}
+use Prim.Native.Nat.{ℕ, _+_, _*_, _≤_, _<_}
+use native.Mathlib.Omega.{arith}
+use borrow.Author.Tests.{le-leb, lt-leb, eq-eqb, le-ltb, lt-ltb}
+use lib.Dec.{leb}
+use lib.ListN.{length}
+use Rattle.laws.specs.Choice.{pick, both}
+use Rattle.laws.proofs.Choice.{both-true, both-false-left, both-false-right}
+use Rattle.geometry.specs.TagMemory.{inLimits, memoryLength}
+use Rattle.geometry.proofs.Lengths.{length-1, length-512, length-513, length-most}
+use Rattle.geometry.proofs.Limits.{inLimits-is, inLimits-none, inLimits-over}
+use Rattle.memory.specs.PlainReading.{plainReading}
+use Rattle.memory.proofs.Reading as reading
+use Rattle.tracker.specs.Answer.{ok, no}
+use Rattle.rules.specs.State.{lengthsRight, begun}
+use Rattle.rules.specs.Whole.{limits}
+use Rattle.rules.specs.Calls.{Out, fresh, issue}
+use Rattle.rules.proofs.Begun.{begun-whole}
+use Rattle.rules.proofs.Calls.{lengths-right, issue-accepted, issue-group}
+use Rattle.edges.specs.Edges.{Edges}
+
+limits-over : (n t l : ℕ) → inLimits n ≡ false → limits n t l ≡ false
+unfolding limits
+limits-over n t l e = both-false-left _ _ e
+
+limits-is : (n t : ℕ) → 1 ≤ n → n ≤ 262144 → 1 ≤ t → t ≤ 8 → limits n t (t + 1) ≡ true
+unfolding limits
+limits-is n t a b c d =
+    let m : t + 1 ≤ 64 = omega arith in
+    let r : t + 1 ≤ t + 1 = omega arith in
+    both-true _ _ (inLimits-is n a b) (both-true _ _ (both-true _ _ (le-leb _ _ c) (le-leb _ _ d)) (both-true _ _ (le-leb _ _ r) (le-leb _ _ m)))
+
+limits-equal : (n t : ℕ) → limits n t t ≡ false
+unfolding limits
+limits-equal n t =
+    let q : t < t + 1 = omega arith in
+    both-false-right _ _ (both-false-right _ _ (both-false-left _ _ (lt-leb _ _ q)))
+
+refused-1 : (n t l : ℕ) (bytes memory : List ℕ) → limits n t l ≡ false → fresh n t l bytes memory .said ≡ no 1
+unfolding fresh
+refused-1 n t l bytes memory e = rw e
+
+passes : (n t l : ℕ) (bytes memory : List ℕ) → limits n t l ≡ true → lengthsRight n l bytes memory ≡ true → fresh n t l bytes memory .said ≡ ok
+unfolding fresh
+passes n t l bytes memory e q = rw (e, q)
+
+begins : (n t l : ℕ) (bytes memory : List ℕ) → limits n t l ≡ true → lengthsRight n l bytes memory ≡ true → fresh n t l bytes memory .state ≡ begun n t l
+unfolding fresh
+begins n t l bytes memory e q = rw (e, q)
+
+module _ (bytes memory : List ℕ) (p : length bytes ≡ 128) (q : length memory ≡ 128) where
+  one-leaf : limits 1 1 2 ≡ true
+  one-leaf = limits-is 1 1 (omega arith) (omega arith) (omega arith) (omega arith)
+
+  right : lengthsRight 1 2 bytes memory ≡ true
+  right = lengths-right 1 2 bytes memory p (q ∙ sym length-1)
+
+  last-group : (write bottom : Bool) (v : ℕ) → issue (fresh 1 1 2 bytes memory .state) bytes memory 0 write bottom 15 v .said ≡ ok
+  last-group write bottom v =
+      rw (begins 1 1 2 bytes memory one-leaf right, issue-accepted (begun 1 1 2) bytes memory (begun-whole 1 1 2 one-leaf) right 0 write bottom 15 v (omega arith) (omega arith) refl)
+
+  past-group : (write bottom : Bool) (v : ℕ) → issue (fresh 1 1 2 bytes memory .state) bytes memory 0 write bottom 16 v .said ≡ no 6
+  past-group write bottom v =
+      rw (begins 1 1 2 bytes memory one-leaf right, issue-group (begun 1 1 2) bytes memory (begun-whole 1 1 2 one-leaf) right 0 write bottom 16 v (omega arith) (omega arith))
+
+pub edges : Edges
+edges = record {
+  n-none = λ t l bytes memory. refused-1 0 t l bytes memory (limits-over 0 t l (inLimits-none 0 (omega arith)));
+  n-over = λ t l bytes memory. refused-1 262145 t l bytes memory (limits-over 262145 t l (inLimits-over 262145 (omega arith)));
+  n-least = λ bytes memory p q. passes 1 1 2 bytes memory (one-leaf bytes memory p q) (right bytes memory p q);
+  n-most = λ bytes memory p q. passes 262144 1 2 bytes memory (limits-is 262144 1 (omega arith) (omega arith) (omega arith) (omega arith))
+      (lengths-right 262144 2 bytes memory p (q ∙ sym length-most));
+  l-is-t = λ n t bytes memory. refused-1 n t t bytes memory (limits-equal n t);
+  l-one-more = λ t bytes memory a b p q. passes 1 t (t + 1) bytes memory (limits-is 1 t (omega arith) (omega arith) a b)
+      (lengths-right 1 (t + 1) bytes memory p (q ∙ sym length-1));
+  group-15 = λ bytes memory write bottom v p q. last-group bytes memory p q write bottom v;
+  group-16 = λ bytes memory write bottom v p q. past-group bytes memory p q write bottom v;
+  reading-16 = λ memory q. reading.refused-6 1 memory 16 (inLimits-is 1 (omega arith) (omega arith)) (q ∙ sym length-1) (omega arith);
+  length-1 = length-1;
+  length-512 = length-512;
+  length-513 = length-513;
+  length-most = length-most;
+}

@@ -1,0 +1,31 @@
+-- 01 "Cases at the edges", as one table.
+use mathlib.Core.Path.{_≡_}
+use mathlib.Core.Bool.{Bool, true, false}
+use mathlib.Core.List.{List}
+use Prim.Native.Nat.{ℕ, _+_, _*_, _≤_}
+use lib.ListN.{length}
+use Rattle.geometry.specs.TagMemory.{memoryLength}
+use Rattle.memory.specs.PlainReading.{plainReading}
+use Rattle.tracker.specs.Answer.{ok, no}
+use Rattle.rules.specs.Calls.{fresh, issue}
+
+pub record Edges : Type 0 where
+  -- "n = 0 and 262,145 give 1; n = 1 and 262,144 pass"
+  pub n-none : (t l : ℕ) (bytes memory : List ℕ) → fresh 0 t l bytes memory .said ≡ no 1
+  pub n-over : (t l : ℕ) (bytes memory : List ℕ) → fresh 262145 t l bytes memory .said ≡ no 1
+  pub n-least : (bytes memory : List ℕ) → length bytes ≡ 128 → length memory ≡ 128 → fresh 1 1 2 bytes memory .said ≡ ok
+  pub n-most : (bytes memory : List ℕ) → length bytes ≡ 128 → length memory ≡ 16809984 → fresh 262144 1 2 bytes memory .said ≡ ok
+  -- "L = T gives 1, L = T + 1 passes", for every T from 1 to 8
+  pub l-is-t : (n t : ℕ) (bytes memory : List ℕ) → fresh n t t bytes memory .said ≡ no 1
+  pub l-one-more : (t : ℕ) (bytes memory : List ℕ) → 1 ≤ t → t ≤ 8 → length bytes ≡ 64 * (t + 1) → length memory ≡ 128 → fresh 1 t (t + 1) bytes memory .said ≡ ok
+  -- "n = 1: group 15 passes, 16 gives 6", of an issue and of plain reading
+  pub group-15 : (bytes memory : List ℕ) (write bottom : Bool) (v : ℕ) → length bytes ≡ 128 → length memory ≡ 128
+      → issue (fresh 1 1 2 bytes memory .state) bytes memory 0 write bottom 15 v .said ≡ ok
+  pub group-16 : (bytes memory : List ℕ) (write bottom : Bool) (v : ℕ) → length bytes ≡ 128 → length memory ≡ 128
+      → issue (fresh 1 1 2 bytes memory .state) bytes memory 0 write bottom 16 v .said ≡ no 6
+  pub reading-16 : (memory : List ℕ) → length memory ≡ 128 → plainReading 1 memory 16 ≡ 4294967296 + 6
+  -- "the three lengths for n = 1, 512, 513", and the largest
+  pub length-1 : memoryLength 1 ≡ 128
+  pub length-512 : memoryLength 512 ≡ 32832
+  pub length-513 : memoryLength 513 ≡ 32960
+  pub length-most : memoryLength 262144 ≡ 16809984

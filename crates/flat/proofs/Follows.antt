@@ -1,0 +1,282 @@
+-- One call of a run: what it says is what the flat row says, and what it leaves agrees with what the flat row leaves.
+use mathlib.Core.Path.{_≡_, refl, sym, ap, _∙_, subst}
+use mathlib.Core.Bool.{Bool, true, false}
+use mathlib.Core.List.{List, []}
+use mathlib.Core.Logic.{_⊎_, inl, inr, ⊎-elim}
+use Prim.Native.Nat.{ℕ, zero, suc, _+_, _*_, _<_, _≤_}
+use native.Mathlib.Omega.{arith}
+use lib.Dec.{ltb, eqb}
+use lib.ListN.{length, getD, set}
+use borrow.Author.Tests.{lt-ltb, le-ltb}
+use Rattle.laws.specs.Choice.{pick}
+use Rattle.laws.specs.Scan.{all}
+use Rattle.laws.proofs.Choice.{not-both-ways, true-or-false}
+use Rattle.laws.proofs.Splice.{lt-or-ge}
+use Rattle.geometry.specs.TagMemory.{leafOf}
+use Rattle.tracker.specs.declared.Phase.{Phase}
+use Rattle.tracker.specs.declared.Phase.the-variants.{Idle, Probe, Map, Leaf, Set, Clear}
+use Rattle.tracker.specs.declared.Tracker.{Tracker}
+use Rattle.tracker.specs.Tracker.{idle, isIdle, isIdleAt, issued, firstPhase}
+use Rattle.tracker.specs.Answer.{Said, ok}
+use Rattle.line.specs.Find.{lineOf}
+use Rattle.rules.specs.State.{State, Rows, trackerAt, lengthsRight}
+use Rattle.rules.specs.Whole.{mapBlock, whole}
+use Rattle.rules.specs.Place.{drained}
+use Rattle.rules.specs.Step.{byPhase}
+use Rattle.rules.specs.Calls.{Out, refused, accepted, withTracker, withLines, issueNo, issue, stepped, stepNo, step, allIdle, drainNo, drain}
+use Rattle.rules.specs.Run.{Call, issues, steps, drains, lends, Kept, kept, elsewhere, does}
+use Rattle.rules.proofs.Whole.{Whole, whole-facts}
+use Rattle.rules.proofs.Calls.{Sound, refused-sound, rows-fit, turn-byPhase, step-is, step-sound, step-idle, step-past, issue-past, issue-group, issue-busy, issue-accepted, issue-kept, drain-is, drain-sound, drain-busy}
+use Rattle.flat.specs.Flat.{Row, Flat, Reply, Course, course, courseOf, says, rowBy, trackerBy, effectBy, withRow, someHolds, refuse, flatIssue, flatStep, flatDrain, flatDoes}
+use Rattle.flat.specs.Demand.{found, Value32}
+use Rattle.flat.proofs.Agrees.{atFinish, Finishes, Fits, Agrees, agrees-same, agrees-rows}
+use Rattle.flat.proofs.Steps.{Plays, plays-byPhase}
+use Rattle.flat.proofs.Drains.{Drained}
+
+abbrev pub rowsOf : Kept → Rows
+rowsOf k = record { lines = k .state .lines; bytes = k .bytes; memory = k .memory }
+
+-- the flat machine with the accesses of k
+abbrev pub flatWith : Kept → Row → Flat
+flatWith k row = record { n = k .state .n; t = k .state .t; l = k .state .l; row = row; trackers = k .state .trackers }
+
+-- what every state of a run has
+pub record Ok (k : Kept) (row : Row) : Type 0 where
+  pub is-whole : whole (k .state) ≡ true
+  pub right : lengthsRight (k .state .n) (k .state .l) (k .bytes) (k .memory) ≡ true
+  pub agrees : Agrees (k .state .n) (k .state .l) (rowsOf k) (k .state .trackers) row
+
+pub record Follows (k : Kept) (c : Call) (row : Row) : Type 0 where
+  pub row' : Row
+  pub said-is : does k c .said ≡ flatDoes (flatWith k row) (found k c) c .said
+  pub flat-is : flatDoes (flatWith k row) (found k c) c .flat ≡ flatWith (kept (does k c)) row'
+  pub ok-still : Ok (kept (does k c)) row'
+  pub n-is : does k c .state .n ≡ k .state .n
+
+follows-by : {k : Kept} {c : Call} {row : Row} (o : Out) (p : Reply) (row' : Row) → does k c ≡ o → flatDoes (flatWith k row) (found k c) c ≡ p
+    → o .said ≡ p .said → p .flat ≡ flatWith (kept o) row' → Ok (kept o) row' → o .state .n ≡ k .state .n → Follows k c row
+follows-by {k} {c} {row} o p row' e f s g a n = record {
+  row' = row';
+  said-is = ap (λ (z : Out). z .said) e ∙ s ∙ ap (λ (z : Reply). z .said) (sym f);
+  flat-is = ap (λ (z : Reply). z .flat) f ∙ g ∙ ap (λ (z : Out). flatWith (kept z) row') (sym e);
+  ok-still = subst (λ (z : Out). Ok (kept z) row') (sym e) a;
+  n-is = ap (λ (z : Out). z .state .n) e ∙ n;
+}
+
+module _ {k : Kept} {row : Row} (a : Ok k row) where
+  -- a refusal
+  follows-no : {c : Call} (i : ℕ) → does k c ≡ refused i (k .state) (k .bytes) (k .memory) → flatDoes (flatWith k row) (found k c) c ≡ refuse i (flatWith k row) → Follows k c row
+  follows-no i e f = follows-by (refused i (k .state) (k .bytes) (k .memory)) (refuse i (flatWith k row)) row e f refl refl a refl
+
+  w : Whole (k .state)
+  w = whole-facts (k .state) (a .is-whole)
+
+  -- issue
+  module _ (x : ℕ) (write bottom : Bool) (g v : ℕ) where
+    flat-issue : flatDoes (flatWith k row) (found k (issues x write bottom g v)) (issues x write bottom g v) ≡ flatIssue (flatWith k row) x write bottom g v
+    unfolding flatDoes
+    flat-issue = refl
+
+    does-issue : does k (issues x write bottom g v) ≡ issue (k .state) (k .bytes) (k .memory) x write bottom g v
+    unfolding does
+    does-issue = refl
+
+    flat-5 : k .state .t ≤ x → flatIssue (flatWith k row) x write bottom g v ≡ refuse 5 (flatWith k row)
+    unfolding flatIssue
+    flat-5 q = rw (le-ltb _ _ q)
+
+    module _ (xl : x < k .state .t) where
+      flat-6 : 16 * k .state .n ≤ g → flatIssue (flatWith k row) x write bottom g v ≡ refuse 6 (flatWith k row)
+      unfolding flatIssue
+      flat-6 q = rw (lt-ltb _ _ xl, le-ltb _ _ q)
+
+      module _ (gl : g < 16 * k .state .n) where
+        flat-7 : isIdle (trackerAt (k .state .trackers) x) ≡ false → flatIssue (flatWith k row) x write bottom g v ≡ refuse 7 (flatWith k row)
+        unfolding flatIssue
+        flat-7 e = rw (lt-ltb _ _ xl, lt-ltb _ _ gl, e)
+
+        flat-issued : isIdle (trackerAt (k .state .trackers) x) ≡ true
+            → flatIssue (flatWith k row) x write bottom g v ≡ (record { said = ok; flat = withRow (flatWith k row) row x (issued write bottom g v); effect = [] })
+        unfolding flatIssue
+        flat-issued e = rw (lt-ltb _ _ xl, lt-ltb _ _ gl, e)
+
+        idle-not : (p : Phase) → isIdleAt p ≡ true → atFinish p ≡ true → ⊥
+        idle-not Idle p q = not-both-ways q refl
+        idle-not Probe p q = not-both-ways q refl
+        idle-not Map p q = not-both-ways q refl
+        idle-not Leaf p q = not-both-ways q refl
+        idle-not Set p q = not-both-ways p refl
+        idle-not Clear p q = not-both-ways p refl
+
+        first-fits : (b : Bool) → Fits row (issued write b g v) (firstPhase b)
+        first-fits true = tt
+        first-fits false = tt
+
+        value-small : v < 4294967296 → (b : Bool) → pick b v 0 < 4294967296
+        value-small q true = q
+        value-small q false = omega arith
+
+        issued-agrees : isIdle (trackerAt (k .state .trackers) x) ≡ true → v < 4294967296
+            → Agrees (k .state .n) (k .state .l) (rowsOf k) (set (k .state .trackers) x (issued write bottom g v)) row
+        issued-agrees e q = agrees-same (a .agrees) x (omega (arith, w .tracked .long)) (issued write bottom g v) (value-small q write) (a .agrees .good) (λ b bl. refl) (a .agrees .lined)
+            (λ j f. idle-not (trackerAt (k .state .trackers) x .phase) e (f .is-there)) (first-fits bottom)
+
+    follows-issue : v < 4294967296 → Follows k (issues x write bottom g v) row
+    follows-issue q = go (lt-or-ge x (k .state .t)) (lt-or-ge g (16 * k .state .n)) (true-or-false (isIdle (trackerAt (k .state .trackers) x)))
+      where
+        go : (x < k .state .t) ⊎ (k .state .t ≤ x) → (g < 16 * k .state .n) ⊎ (16 * k .state .n ≤ g)
+            → (isIdle (trackerAt (k .state .trackers) x) ≡ true) ⊎ (isIdle (trackerAt (k .state .trackers) x) ≡ false) → Follows k (issues x write bottom g v) row
+        go (inr xl) gl e = follows-no 5 (does-issue ∙ issue-past (k .state) (k .bytes) (k .memory) (a .is-whole) (a .right) x write bottom g v xl) (flat-issue ∙ flat-5 xl)
+        go (inl xl) (inr gl) e = follows-no 6 (does-issue ∙ issue-group (k .state) (k .bytes) (k .memory) (a .is-whole) (a .right) x write bottom g v xl gl) (flat-issue ∙ flat-6 xl gl)
+        go (inl xl) (inl gl) (inr e) = follows-no 7 (does-issue ∙ issue-busy (k .state) (k .bytes) (k .memory) (a .is-whole) (a .right) x write bottom g v xl gl e) (flat-issue ∙ flat-7 xl gl e)
+        go (inl xl) (inl gl) (inl e) =
+            let is = issue-accepted (k .state) (k .bytes) (k .memory) (a .is-whole) (a .right) x write bottom g v xl gl e in
+            let s = issue-kept (k .state) (k .bytes) (k .memory) (a .is-whole) (a .right) x write bottom g v in
+            follows-by (accepted (withTracker (k .state) x (issued write bottom g v)) (k .bytes) (k .memory))
+            (record { said = ok; flat = withRow (flatWith k row) row x (issued write bottom g v); effect = [] }) row (does-issue ∙ is) (flat-issue ∙ flat-issued xl gl e) refl refl
+            (record { is-whole = rw is at (s .is-whole); right = a .right; agrees = issued-agrees xl gl e q }) refl
+
+  -- step
+  module _ (x : ℕ) where
+    flat-step : flatDoes (flatWith k row) (found k (steps x)) (steps x) ≡ flatStep (flatWith k row) (ltb (lineOf (k .state .lines) (k .state .l) (leafOf (trackerAt (k .state .trackers) x .group))) (k .state .l)) x
+    unfolding flatDoes found
+    flat-step = refl
+
+    does-step : does k (steps x) ≡ step (k .state) (k .bytes) (k .memory) x
+    unfolding does
+    does-step = refl
+
+    module _ (f : Bool) where
+      flat-past : k .state .t ≤ x → flatStep (flatWith k row) f x ≡ refuse 5 (flatWith k row)
+      unfolding flatStep
+      flat-past q = rw (le-ltb _ _ q)
+
+      flat-idle : x < k .state .t → isIdle (trackerAt (k .state .trackers) x) ≡ true → flatStep (flatWith k row) f x ≡ refuse 8 (flatWith k row)
+      unfolding flatStep
+      flat-idle q e = rw (lt-ltb _ _ q, e)
+
+      flat-turn : x < k .state .t → isIdle (trackerAt (k .state .trackers) x) ≡ false
+          → flatStep (flatWith k row) f x ≡ (let t = trackerAt (k .state .trackers) x in let c = courseOf (flatWith k row) f x in
+          record { said = says row t c; flat = withRow (flatWith k row) (rowBy row t c) x (trackerBy t c); effect = effectBy t c })
+      unfolding flatStep
+      flat-turn q e = rw (lt-ltb _ _ q, e)
+
+    module _ (xl : x < k .state .t) (busy : isIdle (trackerAt (k .state .trackers) x) ≡ false) where
+      abbrev u : Tracker
+      u = trackerAt (k .state .trackers) x
+
+      abbrev in-line : Bool
+      in-line = ltb (lineOf (k .state .lines) (k .state .l) (leafOf (u .group))) (k .state .l)
+
+      abbrev c : Course
+      c = courseOf (flatWith k row) in-line x
+
+      plays : Plays (k .state .n) (k .state .l) x (k .state .trackers) row u c (byPhase (k .state .n) (k .state .l) (k .state .hand) x u (rowsOf k) (u .phase))
+      plays = plays-byPhase (k .state .n) (k .state .t) (k .state .l) (k .state .hand) x (k .state .trackers) (rowsOf k) (w .limits-ok) (w .lined) (w .tracked) xl (w .hand-lt)
+          (rows-fit (k .state) (k .bytes) (k .memory) (a .is-whole) (a .right)) u refl busy row (a .agrees) in-line _ refl refl (u .phase) refl
+
+      follows-turn : Follows k (steps x) row
+      follows-turn =
+          let is = step-is (k .state) (k .bytes) (k .memory) (a .is-whole) (a .right) x xl busy ∙ ap (stepped (k .state) x) (turn-byPhase (k .state) (k .bytes) (k .memory) (a .is-whole) (a .right) x xl busy) in
+          let s = step-sound (k .state) (k .bytes) (k .memory) (a .is-whole) (a .right) x xl busy in
+          follows-by (stepped (k .state) x (byPhase (k .state .n) (k .state .l) (k .state .hand) x u (rowsOf k) (u .phase)))
+          (record { said = says row u c; flat = withRow (flatWith k row) (rowBy row u c) x (trackerBy u c); effect = effectBy u c })
+          (rowBy row u c) (does-step ∙ is) (flat-step ∙ flat-turn in-line xl busy) (plays .said-is)
+          (ap (λ (z : Tracker). withRow (flatWith k row) (rowBy row u c) x z) (sym (plays .tracker-is)))
+          (record { is-whole = rw is at (s .is-whole); right = rw is at (s .right); agrees = plays .agrees }) refl
+
+    follows-step : Follows k (steps x) row
+    follows-step = go (lt-or-ge x (k .state .t)) (true-or-false (isIdle (trackerAt (k .state .trackers) x)))
+      where
+        go : (x < k .state .t) ⊎ (k .state .t ≤ x) → (isIdle (trackerAt (k .state .trackers) x) ≡ true) ⊎ (isIdle (trackerAt (k .state .trackers) x) ≡ false) → Follows k (steps x) row
+        go (inr q) e = follows-no 5 (does-step ∙ step-past (k .state) (k .bytes) (k .memory) (a .is-whole) (a .right) x q) (flat-step ∙ flat-past _ q)
+        go (inl q) (inl e) = follows-no 8 (does-step ∙ step-idle (k .state) (k .bytes) (k .memory) (a .is-whole) (a .right) x q e) (flat-step ∙ flat-idle _ q e)
+        go (inl q) (inr e) = follows-turn q e
+
+  -- drain
+  flat-drain : flatDoes (flatWith k row) (found k drains) drains ≡ flatDrain (flatWith k row)
+  unfolding flatDoes
+  flat-drain = refl
+
+  does-drain : does k drains ≡ drain (k .state) (k .bytes) (k .memory)
+  unfolding does
+  does-drain = refl
+
+  flat-busy : allIdle (k .state) ≡ false → flatDrain (flatWith k row) ≡ refuse 7 (flatWith k row)
+  unfolding flatDrain allIdle
+  flat-busy e = rw e
+
+  flat-drained : allIdle (k .state) ≡ true → flatDrain (flatWith k row) ≡ (record { said = ok; flat = flatWith k row; effect = [] })
+  unfolding flatDrain allIdle
+  flat-drained e = rw e
+
+  follows-drain : Follows k drains row
+  follows-drain = go (true-or-false (allIdle (k .state)))
+    where
+      go : (allIdle (k .state) ≡ true) ⊎ (allIdle (k .state) ≡ false) → Follows k drains row
+      go (inr e) = follows-no 7 (does-drain ∙ drain-busy (k .state) (k .bytes) (k .memory) (a .is-whole) (a .right) e) (flat-drain ∙ flat-busy e)
+      go (inl e) =
+          let is = drain-is (k .state) (k .bytes) (k .memory) (a .is-whole) (a .right) e in
+          let s = drain-sound (k .state) (k .bytes) (k .memory) (a .is-whole) (a .right) e in
+          let d = Rattle.flat.proofs.Drains.drains (a .agrees .good) (k .state .l) (omega arith) in
+          let b : drained (k .state .l) (rowsOf k) .bytes ≡ k .bytes = Rattle.rules.proofs.Calls.drains (k .state) (k .bytes) (k .memory) (a .is-whole) (a .right) e (k .state .l) (omega arith) .bytes-is in
+          follows-by (accepted (withLines (k .state) (drained (k .state .l) (rowsOf k) .lines)) (k .bytes) (drained (k .state .l) (rowsOf k) .memory))
+          (record { said = ok; flat = flatWith k row; effect = [] }) row (does-drain ∙ is) (flat-drain ∙ flat-drained e) refl refl
+          (record {
+            is-whole = rw is at (s .is-whole);
+            right = rw is at (s .right);
+            agrees = subst (λ (y : List ℕ). Agrees (k .state .n) (k .state .l)
+                (record { lines = drained (k .state .l) (rowsOf k) .lines; bytes = y; memory = drained (k .state .l) (rowsOf k) .memory }) (k .state .trackers) row) b
+                (agrees-rows (a .agrees) (d .same .good) (d .same .same) (λ i j q h. a .agrees .lined i j q (d .had i j h)));
+          }) refl
+
+-- a call that lent other bytes: of the right lengths they are the run's own, of others the call is refused 2
+module _ (k : Kept) (b m : List ℕ) (c : Call) where
+  does-right : lengthsRight (k .state .n) (k .state .l) b m ≡ true → does k (lends b m c) ≡ does k c
+  unfolding does
+  does-right e = rw e
+
+  does-wrong : lengthsRight (k .state .n) (k .state .l) b m ≡ false → does k (lends b m c) ≡ elsewhere (does (record { state = k .state; bytes = b; memory = m }) c) k
+  unfolding does
+  does-wrong e = rw e
+
+  module _ (row : Row) where
+    flat-right : lengthsRight (k .state .n) (k .state .l) b m ≡ true → flatDoes (flatWith k row) (found k (lends b m c)) (lends b m c) ≡ flatDoes (flatWith k row) (found k c) c
+    unfolding flatDoes found
+    flat-right e = rw e
+
+    flat-wrong : lengthsRight (k .state .n) (k .state .l) b m ≡ false → flatDoes (flatWith k row) (found k (lends b m c)) (lends b m c) ≡ refuse 2 (flatWith k row)
+    unfolding flatDoes
+    flat-wrong e = rw e
+
+module _ (s : State) (b m : List ℕ) (w : whole s ≡ true) (e : lengthsRight (s .n) (s .l) b m ≡ false) where
+  issue-2 : (x : ℕ) (write bottom : Bool) (g v : ℕ) → does (record { state = s; bytes = b; memory = m }) (issues x write bottom g v) ≡ refused 2 s b m
+  unfolding does issue issueNo
+  issue-2 x write bottom g v = rw (w, e)
+
+  step-2 : (x : ℕ) → does (record { state = s; bytes = b; memory = m }) (steps x) ≡ refused 2 s b m
+  unfolding does step stepNo
+  step-2 x = rw (w, e)
+
+  drain-2 : does (record { state = s; bytes = b; memory = m }) drains ≡ refused 2 s b m
+  unfolding does drain drainNo
+  drain-2 = rw (w, e)
+
+wrong-lengths : (s : State) (c : Call) (b m : List ℕ) → whole s ≡ true → lengthsRight (s .n) (s .l) b m ≡ false → does (record { state = s; bytes = b; memory = m }) c ≡ refused 2 s b m
+wrong-lengths s (issues x write bottom g v) b m w e = issue-2 s b m w e x write bottom g v
+wrong-lengths s (steps x) b m w e = step-2 s b m w e x
+wrong-lengths s drains b m w e = drain-2 s b m w e
+wrong-lengths s (lends b' m' c) b m w e = ⊎-elim
+    (λ r. does-right (record { state = s; bytes = b; memory = m }) b' m' c r ∙ wrong-lengths s c b m w e)
+    (λ r. does-wrong (record { state = s; bytes = b; memory = m }) b' m' c r
+    ∙ ap (λ (o : Out). elsewhere o (record { state = s; bytes = b; memory = m })) (wrong-lengths s c b' m' w r)) (true-or-false (lengthsRight (s .n) (s .l) b' m'))
+
+pub follows : (k : Kept) (row : Row) → Ok k row → (c : Call) → Value32 c → Follows k c row
+follows k row a (issues x write bottom g v) q = follows-issue a x write bottom g v q
+follows k row a (steps x) q = follows-step a x
+follows k row a drains q = follows-drain a
+follows k row a (lends b m c) q = go (follows k row a c q) (true-or-false (lengthsRight (k .state .n) (k .state .l) b m))
+  where
+    go : Follows k c row → (lengthsRight (k .state .n) (k .state .l) b m ≡ true) ⊎ (lengthsRight (k .state .n) (k .state .l) b m ≡ false) → Follows k (lends b m c) row
+    go f (inl e) = follows-by (does k c) (flatDoes (flatWith k row) (found k c) c) (f .row') (does-right k b m c e) (flat-right k b m c row e) (f .said-is) (f .flat-is) (f .ok-still) (f .n-is)
+    go f (inr e) = follows-no a 2 (does-wrong k b m c e ∙ ap (λ (o : Out). elsewhere o k) (wrong-lengths (k .state) c b m (a .is-whole) e)) (flat-wrong k b m c row e)

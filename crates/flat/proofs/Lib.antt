@@ -1,0 +1,11 @@
+pub mod Contents
+pub mod Views
+pub mod Tags
+pub mod Rows
+pub mod Agrees
+pub mod Course
+pub mod Steps
+pub mod Drains
+pub mod Rest
+pub mod Follows
+pub mod Demand

@@ -1,0 +1,187 @@
+-- Groups, bits and zero bytes of one block in a row of blocks, and what a write into one block leaves of the others.
+use mathlib.Core.Path.{_≡_, refl, sym, ap, _∙_, subst}
+use mathlib.Core.Bool.{Bool, true, false}
+use mathlib.Core.List.{List}
+use mathlib.Core.Logic.{_⊎_, inl, inr, ⊎-elim}
+use Prim.Native.Nat.{ℕ, zero, suc, _+_, _-_, _*_, _/_, _%_, _<_, _≤_}
+use native.Mathlib.Omega.{arith}
+use native.Mathlib.Decide.{ℕ-discrete, decLt}
+use lib.Dec.{eqb}
+use borrow.Author.Tests.{eq-eqb, ne-eqb, eqb-true, eqb-false}
+use lib.ListN.{length, getD, set, replicate, length-set, length-replicate}
+use lib.Seq.{ext-getD, getD-set-same, getD-set-other}
+use Rattle.laws.specs.Choice.{pick, both}
+use Rattle.laws.specs.Scan.{all}
+use Rattle.laws.specs.Bits.{withBit}
+use Rattle.laws.specs.Bytes.{part, splice, putW, bytes, value}
+use Rattle.laws.proofs.Splice.{lt-or-ge, length-splice, part-same, part-other, getD-part, splice-in}
+use Rattle.laws.proofs.Put.{length-part, putW-fits}
+use Rattle.laws.proofs.Value.{value-4, value-bytes, length-bytes, numberAt-fits}
+use Rattle.geometry.specs.TagMemory.{leafOf, byteOf, blockPlace}
+use Rattle.memory.specs.True.{blockAt}
+use Rattle.block.specs.Block.{groupAt, putGroup, bitAt, putBit, allZero}
+use Rattle.block.proofs.Groups.{groupAt-fits, putGroup-fits, groupAt-putGroup-same, groupAt-putGroup-other}
+use Rattle.block.proofs.BitsOf.{putBit-is}
+use Rattle.block.proofs.Zero.{allZero-at, allZero-is, allZero-not}
+use Rattle.flat.specs.Flat.{Row, put}
+
+-- the row m has block b
+abbrev pub Has64 : List ℕ → ℕ → Type 0
+Has64 m b = 64 * b + 64 ≤ length m
+
+module _ (m : List ℕ) (b : ℕ) (h : Has64 m b) where
+  pub block-length : length (blockAt m b) ≡ 64
+  block-length = length-part m (64 * b) 64 h
+
+  pub group-block : (o : ℕ) → o + 4 ≤ 64 → groupAt m (64 * b + o) ≡ groupAt (blockAt m b) o
+  group-block o q =
+      let e0 : getD (blockAt m b) o 0 ≡ getD m (64 * b + o) 0 = getD-part m (64 * b) 64 o (omega arith) in
+      let e1 : getD (blockAt m b) (o + 1) 0 ≡ getD m (64 * b + (o + 1)) 0 = getD-part m (64 * b) 64 (o + 1) (omega arith) in
+      let e2 : getD (blockAt m b) (o + 2) 0 ≡ getD m (64 * b + (o + 2)) 0 = getD-part m (64 * b) 64 (o + 2) (omega arith) in
+      let e3 : getD (blockAt m b) (o + 3) 0 ≡ getD m (64 * b + (o + 3)) 0 = getD-part m (64 * b) 64 (o + 3) (omega arith) in
+      let s1 : 64 * b + o + 1 ≡ 64 * b + (o + 1) = omega arith in
+      let s2 : 64 * b + o + 2 ≡ 64 * b + (o + 2) = omega arith in
+      let s3 : 64 * b + o + 3 ≡ 64 * b + (o + 3) = omega arith in
+      groupAt-fits m (64 * b + o) (omega arith) ∙ rw (s1, s2, s3, ← e0, ← e1, ← e2, ← e3) (sym (groupAt-fits (blockAt m b) o (omega (arith, block-length))))
+
+  pub bit-block : (o k : ℕ) → o < 64 → bitAt m (64 * b + o) k ≡ bitAt (blockAt m b) o k
+  unfolding bitAt
+  bit-block o k q = rw (getD-part m (64 * b) 64 o q)
+
+  -- another block, where this one's bytes change
+  module _ (y : List ℕ) (ly : length y ≡ 64) where
+    fit : 64 * b + length y ≤ length m
+    fit = omega arith
+
+    pub splice-here : blockAt (splice m (64 * b) y) b ≡ y
+    splice-here = subst (λ (w : ℕ). part (splice m (64 * b) y) (64 * b) w ≡ y) ly (part-same m (64 * b) y fit)
+
+    pub splice-there : (c : ℕ) → Has64 m c → (c ≡ b → ⊥) → blockAt (splice m (64 * b) y) c ≡ blockAt m c
+    splice-there c hc n = part-other m (64 * b) y (64 * c) 64 fit hc (sides (decLt c b))
+      where
+        sides : Dec (c < b) → (64 * c + 64 ≤ 64 * b) ⊎ (64 * b + length y ≤ 64 * c)
+        sides (yes q) = inl (omega arith)
+        sides (no q) = inr (omega arith)
+
+    pub put-is : putW 64 m (64 * b) y ≡ splice m (64 * b) y
+    put-is = putW-fits 64 m (64 * b) y h
+
+    pub put-length : length (putW 64 m (64 * b) y) ≡ length m
+    put-length = ap length put-is ∙ length-splice m (64 * b) y fit
+
+    pub put-here : blockAt (putW 64 m (64 * b) y) b ≡ y
+    put-here = rw put-is splice-here
+
+    pub put-there : (c : ℕ) → Has64 m c → (c ≡ b → ⊥) → blockAt (putW 64 m (64 * b) y) c ≡ blockAt m c
+    put-there c hc n = rw put-is (splice-there c hc n)
+
+  -- a group put into this block
+  module _ (o v : ℕ) (q : o + 4 ≤ 64) where
+    as-block : putGroup m (64 * b + o) v ≡ splice m (64 * b) (putGroup (blockAt m b) o v)
+    as-block =
+        let l4 : length (bytes 4 v) ≡ 4 = length-bytes 4 v in
+        putGroup-fits m (64 * b + o) v (omega arith)
+        ∙ sym (splice-in m (64 * b) 64 o (bytes 4 v) h (omega arith))
+        ∙ ap (splice m (64 * b)) (sym (putGroup-fits (blockAt m b) o v (omega (arith, block-length))))
+
+    pub group-length : length (putGroup (blockAt m b) o v) ≡ 64
+    group-length =
+        let l4 : length (bytes 4 v) ≡ 4 = length-bytes 4 v in
+        ap length (putGroup-fits (blockAt m b) o v (omega (arith, block-length)))
+        ∙ length-splice (blockAt m b) o (bytes 4 v) (omega (arith, block-length)) ∙ block-length
+
+    pub group-here : blockAt (putGroup m (64 * b + o) v) b ≡ putGroup (blockAt m b) o v
+    group-here = rw as-block (splice-here (putGroup (blockAt m b) o v) group-length)
+
+    pub group-there : (c : ℕ) → Has64 m c → (c ≡ b → ⊥) → blockAt (putGroup m (64 * b + o) v) c ≡ blockAt m c
+    group-there c hc n = rw as-block (splice-there (putGroup (blockAt m b) o v) group-length c hc n)
+
+    pub group-whole : length (putGroup m (64 * b + o) v) ≡ length m
+    group-whole = ap length as-block ∙ length-splice m (64 * b) (putGroup (blockAt m b) o v) (fit (putGroup (blockAt m b) o v) group-length)
+
+  -- a bit put into this block
+  module _ (o k v : ℕ) (q : o < 64) (kl : k < 8) where
+    pub bit-whole : length (putBit m (64 * b + o) k v) ≡ length m
+    bit-whole = ap length (putBit-is m (64 * b + o) k v kl) ∙ length-set m (64 * b + o) _
+
+    pub bit-length : length (putBit (blockAt m b) o k v) ≡ 64
+    bit-length = ap length (putBit-is (blockAt m b) o k v kl) ∙ length-set (blockAt m b) o _ ∙ block-length
+
+    pub bit-there : (c : ℕ) → Has64 m c → (c ≡ b → ⊥) → blockAt (putBit m (64 * b + o) k v) c ≡ blockAt m c
+    bit-there c hc n =
+        let lc : length (blockAt (putBit m (64 * b + o) k v) c) ≡ 64 = length-part (putBit m (64 * b + o) k v) (64 * c) 64 (omega (arith, bit-whole)) in
+        ext-getD 0 (blockAt (putBit m (64 * b + o) k v) c) (blockAt m c) (lc ∙ sym (length-part m (64 * c) 64 hc))
+        (λ i s. getD-part (putBit m (64 * b + o) k v) (64 * c) 64 i (omega arith)
+        ∙ rw (putBit-is m (64 * b + o) k v kl) (getD-set-other m (64 * b + o) (64 * c + i) _ 0 (λ e. n (let i64 : i < 64 = omega arith in omega arith)))
+        ∙ sym (getD-part m (64 * c) 64 i (omega arith)))
+
+    pub bit-here : blockAt (putBit m (64 * b + o) k v) b ≡ putBit (blockAt m b) o k v
+    bit-here =
+        let lb : length (blockAt (putBit m (64 * b + o) k v) b) ≡ 64 = length-part (putBit m (64 * b + o) k v) (64 * b) 64 (omega (arith, bit-whole)) in
+        ext-getD 0 (blockAt (putBit m (64 * b + o) k v) b) (putBit (blockAt m b) o k v) (lb ∙ sym bit-length)
+        (λ i s. getD-part (putBit m (64 * b + o) k v) (64 * b) 64 i (omega arith)
+        ∙ rw (putBit-is m (64 * b + o) k v kl, putBit-is (blockAt m b) o k v kl, getD-part m (64 * b) 64 o q) (at i (omega arith) (ℕ-discrete i o)))
+      where
+        at : (i : ℕ) → i < 64 → Dec (i ≡ o)
+            → getD (set m (64 * b + o) (withBit (getD m (64 * b + o) 0) k v)) (64 * b + i) 0 ≡ getD (set (blockAt m b) o (withBit (getD m (64 * b + o) 0) k v)) i 0
+        at i l (yes e) = rw e (getD-set-same m (64 * b + o) _ 0 (omega arith) ∙ sym (getD-set-same (blockAt m b) o _ 0 (omega (arith, block-length))))
+        at i l (no e) = getD-set-other m (64 * b + o) (64 * b + i) _ 0 (λ p. e (omega arith)) ∙ sym (getD-part m (64 * b) 64 i l) ∙ sym (getD-set-other (blockAt m b) o i _ 0 e)
+
+-- One block of 64 bytes as its 16 groups.
+module _ (c : List ℕ) (lc : length c ≡ 64) where
+  pub group-same : (g v : ℕ) → v < 4294967296 → groupAt (putGroup c (byteOf g) v) (byteOf g) ≡ v
+  group-same g v q = groupAt-putGroup-same c (byteOf g) v (omega arith) q
+
+  pub group-other : (g h v : ℕ) → leafOf h ≡ leafOf g → (h ≡ g → ⊥) → groupAt (putGroup c (byteOf g) v) (byteOf h) ≡ groupAt c (byteOf h)
+  group-other g h v e n = groupAt-putGroup-other c (byteOf g) v (byteOf h) (omega arith) (omega arith) (sides (decLt (h % 16) (g % 16)))
+    where
+      sides : Dec (h % 16 < g % 16) → (byteOf h + 4 ≤ byteOf g) ⊎ (byteOf g + 4 ≤ byteOf h)
+      sides (yes q) = inl (omega arith)
+      sides (no q) = inr (omega arith)
+
+  -- the groups of the leaf with v put in
+  pub put-groups : (g h v : ℕ) → v < 4294967296 → leafOf h ≡ leafOf g → groupAt (putGroup c (byteOf g) v) (byteOf h) ≡ put (λ i. groupAt c (byteOf i)) g v h
+  put-groups g h v q e = go (ℕ-discrete h g)
+    where
+      go : Dec (h ≡ g) → groupAt (putGroup c (byteOf g) v) (byteOf h) ≡ put (λ i. groupAt c (byteOf i)) g v h
+      go (yes p) = rw (eq-eqb h g p, p) (group-same g v q)
+      go (no p) = rw (ne-eqb h g p) (group-other g h v e p)
+
+  pub empty-group : (g : ℕ) → allZero c ≡ true → groupAt c (byteOf g) ≡ 0
+  empty-group g z =
+      let e0 = allZero-at c z (byteOf g) (omega arith) in
+      let e1 = allZero-at c z (byteOf g + 1) (omega arith) in
+      let e2 = allZero-at c z (byteOf g + 2) (omega arith) in
+      let e3 = allZero-at c z (byteOf g + 3) (omega arith) in
+      groupAt-fits c (byteOf g) (omega arith) ∙ omega arith
+
+  pub groups-empty : ((j : ℕ) → j < 16 → groupAt c (4 * j) ≡ 0) → allZero c ≡ true
+  groups-empty f = allZero-is c (λ i l. byte (i / 4) (i % 4) i (omega arith) (omega arith) (omega arith))
+    where
+      byte : (q r i : ℕ) → i ≡ 4 * q + r → r < 4 → q < 16 → getD c i 0 ≡ 0
+      byte q zero i e rl ql = let z = f q ql in let s = groupAt-fits c (4 * q) (omega arith) in let p : i ≡ 4 * q = omega arith in rw p (omega arith)
+      byte q (suc zero) i e rl ql = let z = f q ql in let s = groupAt-fits c (4 * q) (omega arith) in let p : i ≡ 4 * q + 1 = omega arith in rw p (omega arith)
+      byte q (suc (suc zero)) i e rl ql = let z = f q ql in let s = groupAt-fits c (4 * q) (omega arith) in let p : i ≡ 4 * q + 2 = omega arith in rw p (omega arith)
+      byte q (suc (suc (suc zero))) i e rl ql = let z = f q ql in let s = groupAt-fits c (4 * q) (omega arith) in let p : i ≡ 4 * q + 3 = omega arith in rw p (omega arith)
+      byte q (suc (suc (suc (suc r)))) i e rl ql = absurd (omega arith)
+
+  pub put-long : (g v : ℕ) → length (putGroup c (byteOf g) v) ≡ 64
+  put-long g v =
+      let l4 : length (bytes 4 v) ≡ 4 = length-bytes 4 v in
+      ap length (putGroup-fits c (byteOf g) v (omega arith)) ∙ length-splice c (byteOf g) (bytes 4 v) (omega arith) ∙ lc
+
+-- 64 zero bytes
+abbrev pub zeros : List ℕ
+zeros = replicate 64 0
+
+pub zeros-long : length zeros ≡ 64
+zeros-long = refl
+
+pub zeros-empty : allZero zeros ≡ true
+unfolding allZero all both
+zeros-empty = refl
+
+-- and v put into them: every other group is 0
+pub new-leaf : (row : Row) (g h v : ℕ) → v < 4294967296 → leafOf h ≡ leafOf g → row h ≡ 0 → put row g v h ≡ groupAt (putGroup zeros (byteOf g) v) (byteOf h)
+new-leaf row g h v q e z =
+    ap (pick (eqb h g) v) (z ∙ sym (empty-group zeros zeros-long h zeros-empty)) ∙ sym (put-groups zeros zeros-long g h v q e)

@@ -1,0 +1,171 @@
+-- The flat row: the value of each group, and the accesses under way, with no cache, no lines and no map.
+-- An access takes effect on the row at one moment, which its steps give: "A write takes effect at its Leaf step, or where it ends 'same'; a read where it ends."
+use mathlib.Core.List.{List, [], _∷_, _++_}
+use mathlib.Core.Bool.{Bool, true, false}
+use Prim.Native.Nat.{ℕ, _+_, _*_}
+use lib.Dec.{eqb, ltb}
+use lib.ListN.{set}
+use Rattle.laws.specs.Choice.{pick, both, implies, no}
+use Rattle.laws.specs.Scan.{all}
+use Rattle.geometry.specs.TagMemory.{leafOf}
+use Rattle.tracker.specs.declared.Phase.{Phase}
+use Rattle.tracker.specs.declared.Phase.the-variants.{Idle, Probe, Map, Leaf, Set, Clear}
+use Rattle.tracker.specs.declared.Tracker.{Tracker}
+use Rattle.tracker.specs.Tracker.{idle, issued, isIdle, goesTo, counted}
+use Rattle.tracker.specs.Answer.{Said, ok, wait, moved, read, done, same}
+use Rattle.rules.specs.State.{trackerAt, lengthsRight}
+use Rattle.rules.specs.Whole.{mapBlock, holds}
+use Rattle.rules.specs.Step.{turnsOf}
+use Rattle.rules.specs.Run.{Call, issues, steps, drains, lends}
+
+abbrev pub Row : Type 0
+Row = ℕ → ℕ
+
+-- the row with v at group g
+abbrev pub put : Row → ℕ → ℕ → Row
+put row g v h = pick (eqb h g) v (row h)
+
+-- leaf k has a tag that is set: one of its 16 groups is not zero
+unfoldable pub tagged : Row → ℕ → Bool
+tagged row k = no (all (λ j. eqb (row (16 * k + j)) 0) 16)
+
+-- An access done whole on the row: the row after it, and what it says.
+abbrev pub after : Row → Tracker → Row
+after row t = pick (t .write) (put row (t .group) (t .value)) row
+
+abbrev pub answer : Row → Tracker → Said
+answer row t = pick (t .write) (pick (eqb (row (t .group)) (t .value)) (same (turnsOf t)) (done (turnsOf t))) (read (row (t .group)) (turnsOf t))
+
+-- it would change nothing: a read, or a write of what is there
+abbrev pub changesNothing : Row → Tracker → Bool
+changesNothing row t = implies (t .write) (eqb (row (t .group)) (t .value))
+
+-- What one step is to its access. At `ends` and `takes` it has its moment.
+pub data Course : Type 0 where
+  waits : Course  -- it waits
+  goes : Phase → Course  -- it goes on to a phase; its moment is to come
+  ends : Course  -- it takes effect and ends
+  takes : Phase → Course  -- it takes effect and goes on to Finish
+  finishes : Course  -- it ends; its moment is behind it
+
+-- a write that changes its leaf: under a tag before and after it is done at once; else the bit has to be set or cleared
+abbrev pub byTags : (before now : Bool) → Course
+byTags true true = ends
+byTags true false = takes Clear
+byTags false now = takes Set
+
+-- The course of a step at each phase. `found`: its leaf is in a line; `held`: another tracker holds its map block.
+abbrev pub course : Row → (found held : Bool) → Tracker → Phase → Course
+course row found held t Idle = waits
+course row found held t Probe = pick (both found (changesNothing row t)) ends (goes Map)
+course row found held t Map = pick held waits (pick (both (no (tagged row (leafOf (t .group)))) (changesNothing row t)) ends (goes Leaf))
+course row found held t Leaf =
+    pick (changesNothing row t) ends (byTags (tagged row (leafOf (t .group))) (tagged (after row t) (leafOf (t .group))))
+course row found held t Set = finishes
+course row found held t Clear = finishes
+
+-- What the step says, and the row and the tracker that it leaves.
+abbrev pub says : Row → Tracker → Course → Said
+says row t waits = wait
+says row t (goes p) = moved
+says row t ends = answer row t
+says row t (takes p) = moved
+says row t finishes = done (turnsOf t)
+
+abbrev pub rowBy : Row → Tracker → Course → Row
+rowBy row t waits = row
+rowBy row t (goes p) = row
+rowBy row t ends = after row t
+rowBy row t (takes p) = after row t
+rowBy row t finishes = row
+
+abbrev pub trackerBy : Tracker → Course → Tracker
+trackerBy t waits = counted t
+trackerBy t (goes p) = goesTo t p
+trackerBy t ends = idle
+trackerBy t (takes p) = goesTo t p
+trackerBy t finishes = idle
+
+-- the access, where the step is its moment
+abbrev pub effectBy : Tracker → Course → List Tracker
+effectBy t waits = []
+effectBy t (goes p) = []
+effectBy t ends = t ∷ []
+effectBy t (takes p) = t ∷ []
+effectBy t finishes = []
+
+-- The flat machine: n leaves, t trackers, l lines as the limits have them; the row; the accesses.
+pub record Flat : Type 0 where
+  pub n : ℕ
+  pub t : ℕ
+  pub l : ℕ
+  pub row : Row
+  pub trackers : List Tracker
+
+-- some tracker holds block b
+unfoldable pub someHolds : ℕ → ℕ → List Tracker → ℕ → Bool
+someHolds n t trackers b = no (all (λ y. no (holds n (trackerAt trackers y) b)) t)
+
+-- the course of a step of tracker x
+abbrev pub courseOf : Flat → Bool → ℕ → Course
+courseOf f found x =
+    let t = trackerAt (f .trackers) x in
+    course (f .row) found (someHolds (f .n) (f .t) (f .trackers) (mapBlock (f .n) (t .group))) t (t .phase)
+
+abbrev pub withRow : Flat → Row → ℕ → Tracker → Flat
+withRow f row x t = record { n = f .n; t = f .t; l = f .l; row = row; trackers = set (f .trackers) x t }
+
+-- a call with what the row cannot know: for a step, whether its access's leaf is in a line
+pub record Given : Type 0 where
+  pub call : Call
+  pub found : Bool
+
+pub record Reply : Type 0 where
+  pub said : Said
+  pub flat : Flat
+  pub effect : List Tracker
+
+abbrev pub refuse : ℕ → Flat → Reply
+refuse c f = record { said = Said.no c; flat = f; effect = [] }
+
+-- "tracker number T or more" 5, "group 16n or more" 6, "issue to a busy tracker" 7
+unfoldable pub flatIssue : Flat → ℕ → (write bottom : Bool) → ℕ → ℕ → Reply
+flatIssue f x write bottom g v =
+    pick (ltb x (f .t))
+    (pick (ltb g (16 * f .n))
+    (pick (isIdle (trackerAt (f .trackers) x)) (record { said = ok; flat = withRow f (f .row) x (issued write bottom g v); effect = [] }) (refuse 7 f))
+    (refuse 6 f))
+    (refuse 5 f)
+
+-- "tracker number T or more" 5, "step of an idle tracker" 8
+unfoldable pub flatStep : Flat → Bool → ℕ → Reply
+flatStep f found x =
+    let t = trackerAt (f .trackers) x in
+    let c = courseOf f found x in
+    pick (ltb x (f .t))
+    (pick (isIdle t) (refuse 8 f) (record { said = says (f .row) t c; flat = withRow f (rowBy (f .row) t c) x (trackerBy t c); effect = effectBy t c }))
+    (refuse 5 f)
+
+-- "drain .. with any busy" 7: accepted exactly if all are at rest
+unfoldable pub flatDrain : Flat → Reply
+flatDrain f = pick (all (λ x. isIdle (trackerAt (f .trackers) x)) (f .t)) (record { said = ok; flat = f; effect = [] }) (refuse 7 f)
+
+-- one call; "a lent length differs from the rule" 2
+unfoldable pub flatDoes : Flat → Bool → Call → Reply
+flatDoes f found (issues x write bottom g v) = flatIssue f x write bottom g v
+flatDoes f found (steps x) = flatStep f found x
+flatDoes f found drains = flatDrain f
+flatDoes f found (lends b m c) = pick (lengthsRight (f .n) (f .l) b m) (flatDoes f found c) (refuse 2 f)
+
+-- any list of calls: what they say, what is left at the end, and the accesses in the order of their moments
+unfoldable pub flatAnswers : Flat → List Given → List Said
+flatAnswers f [] = []
+flatAnswers f (c ∷ cs) = flatDoes f (c .found) (c .call) .said ∷ flatAnswers (flatDoes f (c .found) (c .call) .flat) cs
+
+unfoldable pub flatEnded : Flat → List Given → Flat
+flatEnded f [] = f
+flatEnded f (c ∷ cs) = flatEnded (flatDoes f (c .found) (c .call) .flat) cs
+
+unfoldable pub effects : Flat → List Given → List Tracker
+effects f [] = []
+effects f (c ∷ cs) = flatDoes f (c .found) (c .call) .effect ++ effects (flatDoes f (c .found) (c .call) .flat) cs

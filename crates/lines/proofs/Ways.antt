@@ -1,0 +1,184 @@
+-- A law for each way out of placing, bringing in and draining, from what the code has tested.
+use mathlib.Core.Path.{_≡_, refl, sym, ap, _∙_}
+use mathlib.Core.List.{List}
+use mathlib.Core.Bool.{Bool, true, false}
+use mathlib.Core.Logic.{⊎-elim}
+use Prim.Native.Nat.{ℕ, zero, suc, _+_, _*_, _/_, _%_, _≤_, _<_}
+use native.Mathlib.Omega.{arith}
+use native.Mathlib.Numerals.{add-one}
+use lib.Dec.{eqb, ltb, leb}
+use lib.ListN.{length, getD, set, length-set}
+use borrow.Author.Tests.{lt-ltb, le-ltb, le-leb, lt-leb, ltb-true, ltb-false, leb-true, eqb-true, eqb-false, eq-eqb, ne-eqb}
+use Rattle.laws.specs.Choice.{pick, both, no}
+use Rattle.laws.proofs.Choice.{not-both-ways, true-or-false, both-left, both-right, no-true}
+use Rattle.laws.specs.Bytes.{part, putW}
+use Rattle.geometry.specs.TagMemory.{blockPlace}
+use Rattle.block.specs.Block.{blockOr0}
+use Rattle.block.proofs.Blocks.{blockOr0-fits}
+use Rattle.line.specs.Word.{used, blockOf, changed, word, cleaned}
+use Rattle.line.specs.Find.{lineOf, lowestFree, victim, after}
+use Rattle.line.proofs.Words.{changed-none}
+use Rattle.line.proofs.Find.{lowestFree-free}
+use Rattle.rules.specs.State.{Rows}
+use Rattle.rules.specs.Place.{lineBytes, rowsFit, placeLine, placeHand, writtenBack, placeMemory, Brought, filled, withMemory, bringIn, drained}
+use Rattle.lines.specs.Lines.{rows, placed, fetched, drainedRows, Gives, Drains}
+
+-- the rows fit: what that says
+pub fit-lines : (l : ℕ) (lines bytes : List ℕ) → rowsFit l lines bytes ≡ true → l ≤ length lines
+unfolding rowsFit
+fit-lines l lines bytes e = leb-true _ _ (both-left _ _ e)
+
+pub fit-bytes : (l : ℕ) (lines bytes : List ℕ) → rowsFit l lines bytes ≡ true → length bytes ≡ 64 * l
+unfolding rowsFit
+fit-bytes l lines bytes e = eqb-true _ _ (both-right _ _ e)
+
+-- the tests of the lengths, way by way
+pub bytes-ragged : (m l : ℕ) → (m % 64 ≡ 0 → ⊥) → false ≡ eqb m (64 * l)
+bytes-ragged m l h = sym (ne-eqb m (64 * l) (λ e. h (omega arith)))
+
+pub bytes-even : (m l : ℕ) → m % 64 ≡ 0 → eqb (m / 64) l ≡ eqb m (64 * l)
+bytes-even m l h =
+    ⊎-elim (λ t. let e : m / 64 ≡ l = eqb-true _ _ t in t ∙ sym (eq-eqb m (64 * l) (omega arith)))
+    (λ f. f ∙ sym (ne-eqb m (64 * l) (λ (e : m ≡ 64 * l). eqb-false (m / 64) l f (omega arith)))) (true-or-false (eqb (m / 64) l))
+
+pub lines-short : (l : ℕ) (lines bytes : List ℕ) → length lines < l → false ≡ rowsFit l lines bytes
+unfolding rowsFit both
+lines-short l lines bytes h = rw (lt-leb _ _ h) refl
+
+pub lines-enough : (l : ℕ) (lines bytes : List ℕ) {f : Bool} → l ≤ length lines → f ≡ eqb (length bytes) (64 * l) → f ≡ rowsFit l lines bytes
+unfolding rowsFit both
+lines-enough l lines bytes h e = rw (le-leb _ _ h) e
+
+-- a rule whose value is known is given
+pub gives : {b : Brought} (i h : ℕ) (ls bs m : List ℕ) → b ≡ (record { line = i; hand = h; rows = rows ls bs m }) → Gives b i h ls bs m
+gives i h ls bs m e = rw e (record { line = refl; hand = refl; lines = refl; bytes = refl; memory = refl })
+
+-- writing line i back: a clean one, and a changed one through an array
+module _ (lines bytes memory : List ℕ) (i : ℕ) where
+  pub written-not : changed (getD lines i 0) ≡ false → memory ≡ writtenBack lines bytes memory i
+  unfolding writtenBack
+  written-not e = rw e refl
+
+  pub written-is : {b at : ℕ} {y m : List ℕ} → 64 * i + 64 ≤ length bytes → changed (getD lines i 0) ≡ true → b ≡ blockOf (getD lines i 0)
+      → at ≡ blockPlace b → y ≡ blockOr0 bytes (64 * i) → m ≡ putW 64 memory at y → m ≡ writtenBack lines bytes memory i
+  unfolding writtenBack
+  written-is h e eb ea ey em = rw (em, ey, ea, eb, blockOr0-fits bytes (64 * i) h, e) refl
+
+-- a line is taken only where the rows fit
+module _ (l hand : ℕ) (lines bytes : List ℕ) where
+  placed-fits : placeLine l hand lines bytes < l → rowsFit l lines bytes ≡ true
+  unfolding placeLine
+  placed-fits h = fits (rowsFit l lines bytes) refl
+    where
+      fits : (f : Bool) → rowsFit l lines bytes ≡ f → rowsFit l lines bytes ≡ true
+      fits true e = e
+      fits false e = absurd (omega (arith, rw e at h))
+
+  module _ (p : ℕ) (e : p ≡ placeLine l hand lines bytes) (h : p < l) where
+    pub placed-lines : l ≤ length lines
+    placed-lines = fit-lines l lines bytes (placed-fits (omega arith))
+
+    pub placed-bytes : length bytes ≡ 64 * l
+    placed-bytes = fit-bytes l lines bytes (placed-fits (omega arith))
+
+-- placing, way by way
+module _ (l hand : ℕ) (lines bytes memory : List ℕ) where
+  pub placed-misfit : rowsFit l lines bytes ≡ false → Gives (placed l hand (rows lines bytes memory)) l hand lines bytes memory
+  unfolding placeLine placeHand placeMemory both
+  placed-misfit e = gives l hand lines bytes memory (rw (e, le-ltb l l (omega arith)) refl)
+
+  pub placed-free : (i : ℕ) → rowsFit l lines bytes ≡ true → i ≡ lowestFree lines l → i < l → Gives (placed l hand (rows lines bytes memory)) i hand lines bytes memory
+  unfolding placeLine placeHand placeMemory both
+  placed-free i f e h =
+      let h' : lowestFree lines l < l = omega arith in
+      rw e (gives (lowestFree lines l) hand lines bytes memory
+      (rw (f, lt-ltb _ _ h', lt-leb _ _ h', lt-ltb _ _ h', ← written-not lines bytes memory _ (changed-none _ (lowestFree-free lines l h'))) refl))
+
+  -- none is free, and every line is held
+  pub placed-none : (i : ℕ) → rowsFit l lines bytes ≡ true → l ≤ lowestFree lines l → i ≡ victim lines l hand → l ≤ i
+      → Gives (placed l hand (rows lines bytes memory)) i hand lines bytes memory
+  unfolding placeLine placeHand placeMemory both
+  placed-none i f o e h =
+      let h' : l ≤ victim lines l hand = omega arith in
+      rw e (gives (victim lines l hand) hand lines bytes memory (rw (f, le-ltb _ _ o, le-leb _ _ o, le-ltb _ _ h') refl))
+
+  pub placed-victim : (i next : ℕ) (m : List ℕ) → rowsFit l lines bytes ≡ true → l ≤ lowestFree lines l → i ≡ victim lines l hand → i < l
+      → next ≡ after l i → m ≡ writtenBack lines bytes memory i → Gives (placed l hand (rows lines bytes memory)) i next lines bytes m
+  unfolding placeLine placeHand placeMemory both
+  placed-victim i next m f o e h a w =
+      let h' : victim lines l hand < l = omega arith in
+      rw (w, a, e) (gives (victim lines l hand) (after l (victim lines l hand)) lines bytes (writtenBack lines bytes memory (victim lines l hand))
+      (rw (f, le-ltb _ _ o, le-leb _ _ o, lt-ltb _ _ h') refl))
+
+  -- memory changes only where a line is taken
+  pub placed-same : l ≤ placeLine l hand lines bytes → placeMemory l hand (rows lines bytes memory) ≡ memory
+  unfolding placeMemory
+  placed-same h = rw (le-ltb _ _ h)
+
+  -- bringing in a block that no line has
+  module _ (b : ℕ) where
+    pub fetched-none : (p next : ℕ) (m : List ℕ) → Gives (placed l hand (rows lines bytes memory)) p next lines bytes m → l ≤ p
+        → Gives (fetched l hand b (rows lines bytes memory)) l hand lines bytes m
+    unfolding fetched
+    fetched-none p next m g h =
+        let o : l ≤ placeLine l hand lines bytes = omega (arith, g .line) in
+        rw (g .memory ∙ placed-same o) (gives l hand lines bytes memory (rw (le-ltb _ _ o) refl))
+
+    pub fetched-is : (p next w at : ℕ) (bs m y : List ℕ) → Gives (placed l hand (rows lines bytes memory)) p next lines bytes m → p < l
+        → w ≡ word b false 0 → at ≡ blockPlace b → y ≡ blockOr0 m at → bs ≡ putW 64 bytes (blockPlace p) y
+        → Gives (fetched l hand b (rows lines bytes memory)) p next (set lines p w) bs m
+    unfolding fetched
+    fetched-is p next w at bs m y g h ew ea ey eb =
+        let o : placeLine l hand lines bytes < l = omega (arith, g .line) in
+        rw (eb, ey, ea, ew, g .line, g .hand, g .memory)
+        (rw (lt-ltb _ _ o) (record { line = refl; hand = refl; lines = refl; bytes = refl; memory = refl }))
+
+    pub bringIn-found : (i : ℕ) → i ≡ lineOf lines l b → i < l → Gives (bringIn l hand b (rows lines bytes memory)) i hand lines bytes memory
+    unfolding bringIn
+    bringIn-found i e h =
+        let o : lineOf lines l b < l = omega arith in
+        rw e (gives (lineOf lines l b) hand lines bytes memory (rw (lt-ltb _ _ o) refl))
+
+    pub bringIn-fetched : l ≤ lineOf lines l b → bringIn l hand b (rows lines bytes memory) ≡ fetched l hand b (rows lines bytes memory)
+    unfolding bringIn fetched
+    bringIn-fetched h = rw (le-ltb _ _ h)
+
+-- the first i of l lines of the rows r are drained
+pub record Draining (l i : ℕ) (r : Rows) (lines memory : List ℕ) : Type 0 where
+  pub within : i ≤ l
+  pub now-lines : lines ≡ drained i r .lines
+  pub now-memory : memory ≡ drained i r .memory
+  pub same-bytes : drained i r .bytes ≡ r .bytes
+  pub lines-kept : length lines ≡ length (r .lines)
+  pub memory-kept : length memory ≡ length (r .memory)
+
+pub draining-none : (l : ℕ) (r : Rows) → Draining l 0 r (r .lines) (r .memory)
+unfolding drained
+draining-none l r = record { within = omega arith; now-lines = refl; now-memory = refl; same-bytes = refl; lines-kept = refl; memory-kept = refl }
+
+pub draining-more : {l i : ℕ} {r : Rows} {lines memory m : List ℕ} (w : ℕ) → Draining l i r lines memory → i < l → w ≡ cleaned (getD lines i 0)
+    → m ≡ writtenBack lines (r .bytes) memory i → length m ≡ length memory → Draining l (i + 1) r (set lines i w) m
+unfolding drained
+draining-more {l} {i} {r} {lines} {memory} {m} w d h ew em k = record {
+  within = omega arith;
+  now-lines = rw (add-one, ew, d .now-lines) refl;
+  now-memory = rw (add-one, em, d .now-lines, d .now-memory, d .same-bytes) refl;
+  same-bytes = rw add-one (d .same-bytes);
+  lines-kept = simp length-set (d .lines-kept);
+  memory-kept = k ∙ d .memory-kept;
+}
+
+-- all l lines of the rows r are drained
+pub draining-all : (l i : ℕ) (r : Rows) (ls m : List ℕ) → Draining l i r ls m → l ≤ i → Drains (drained l r) ls m
+draining-all l i r ls m d h =
+    let e : i ≡ l = omega arith in
+    rw (← e) (record { lines = d .now-lines; memory = d .now-memory })
+
+module _ (l : ℕ) (lines bytes memory : List ℕ) where
+  pub drainedRows-fit : rowsFit l lines bytes ≡ true → drainedRows l (rows lines bytes memory) ≡ drained l (rows lines bytes memory)
+  unfolding drainedRows
+  drainedRows-fit e = rw e
+
+  pub drainedRows-misfit : rowsFit l lines bytes ≡ false → Drains (drainedRows l (rows lines bytes memory)) lines memory
+  unfolding drainedRows
+  drainedRows-misfit e = rw e (record { lines = refl; memory = refl })

@@ -1,0 +1,45 @@
+-- What placing, bringing in and draining promise of rows that are lent: 01 "The cache".
+use mathlib.Core.Path.{_≡_}
+use mathlib.Core.List.{List}
+use mathlib.Core.Bool.{false}
+use Prim.Native.Nat.{ℕ}
+use lib.Dec.{ltb}
+use Rattle.laws.specs.Choice.{pick}
+use Rattle.geometry.specs.TagMemory.{blockPlace}
+use Rattle.block.specs.Block.{blockOr0}
+use Rattle.rules.specs.State.{Rows}
+use Rattle.rules.specs.Place.{rowsFit, placeLine, placeHand, placeMemory, Brought, filled, withMemory, drained}
+
+-- the rows, as they are lent
+abbrev pub rows : List ℕ → List ℕ → List ℕ → Rows
+rows lines bytes memory = record { lines = lines; bytes = bytes; memory = memory }
+
+-- "Placing a block": the line that is taken, the hand, and the rows, of which only memory can have changed
+abbrev pub placed : ℕ → ℕ → Rows → Brought
+placed l hand r =
+    record { line = placeLine l hand (r .lines) (r .bytes); hand = placeHand l hand (r .lines) (r .bytes); rows = withMemory r (placeMemory l hand r) }
+
+-- "else place it and copy 64 bytes from memory, clean": bringing in a block that no line has. The line is L where there was none to take.
+unfoldable pub fetched : ℕ → ℕ → ℕ → Rows → Brought
+fetched l hand b r =
+    let p = placed l hand r in
+    pick (ltb (p .line) l)
+    (record { line = p .line; hand = p .hand; rows = filled (p .rows) (p .line) b false (blockOr0 (p .rows .memory) (blockPlace b)) })
+    (record { line = l; hand = hand; rows = r })
+
+-- the rows drained, where they are of L lines; else as they came
+unfoldable pub drainedRows : ℕ → Rows → Rows
+drainedRows l r = pick (rowsFit l (r .lines) (r .bytes)) (drained l r) r
+
+-- the line, the hand and the rows that a function leaves are those of the rule
+pub record Gives (b : Brought) (i h : ℕ) (ls bs m : List ℕ) : Type 0 where
+  pub line : i ≡ b .line
+  pub hand : h ≡ b .hand
+  pub lines : ls ≡ b .rows .lines
+  pub bytes : bs ≡ b .rows .bytes
+  pub memory : m ≡ b .rows .memory
+
+-- the lines and the memory that draining leaves; the line bytes are only read
+pub record Drains (r : Rows) (ls m : List ℕ) : Type 0 where
+  pub lines : ls ≡ r .lines
+  pub memory : m ≡ r .memory

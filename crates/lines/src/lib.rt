@@ -1,0 +1,133 @@
+// 01 "The cache" on rows that are lent: placing a block, bringing one in, draining.
+// No public function has a `requires`: where the rows are not of L lines, no line is taken and nothing changes.
+use geometry::Geometry;
+ghost use mathlib.Core.Path.{_≡_};
+ghost use Prim.Native.Nat.{_+_, _*_, _≤_, _<_};
+ghost use lib.Dec.{eqb};
+ghost use lib.ListN.{length};
+ghost use Rattle.rules.specs.Place.{rowsFit, writtenBack, bringIn, drained};
+ghost use Rattle.lines.specs.Lines.{rows, placed, fetched, drainedRows, Gives, Drains};
+
+// A line, L for none, and the hand.
+pub struct Spot {
+    pub line: usize,
+    pub hand: usize,
+}
+
+// The line bytes are those of L lines.
+pub fn bytes_fit(l: usize, bytes: &[u8]) -> bool
+    ensures { λ r. ⌜ r ≡ eqb (length (now (bytes .entry))) (64 * l) ⌝ }
+{
+    if bytes.len() % Geometry::BLOCK_LEN != 0 {
+        return false;
+    }
+    bytes.len() / Geometry::BLOCK_LEN == l
+}
+
+// The rows are of L lines.
+fn rows_fit(l: usize, lines: &[u32], bytes: &[u8]) -> bool
+    ensures { λ r. ⌜ r ≡ rowsFit l (now (lines .entry)) (now (bytes .entry)) ⌝ }
+{
+    if lines.len() < l {
+        return false;
+    }
+    bytes_fit(l, bytes)
+}
+
+// Line i, if it is changed, to its block's own place in memory, through an array.
+fn write_back(i: usize, lines: &[u32], bytes: &[u8], memory: &mut [u8])
+    requires { ⌜ (i < length (now lines)) × (64 * i + 64 ≤ length (now bytes)) ⌝ }
+    ensures { λ _. ⌜ now (memory .exit) ≡ writtenBack (now (lines .entry)) (now (bytes .entry)) (now (memory .entry)) i ⌝ }
+{
+    let w = lines[i];
+    if !line::changed(w) {
+        return;
+    }
+    let through = block::read_block(bytes, Geometry::BLOCK_LEN * i);
+    block::write_block(memory, Geometry::block_place(line::block_of(w)), &through);
+}
+
+// Placing a block: the line to take, written back if it was changed, and the hand.
+pub fn place(l: usize, hand: usize, lines: &[u32], bytes: &[u8], memory: &mut [u8]) -> Spot
+    ensures { λ r. ⌜ Gives (placed l hand (rows (now (lines .entry)) (now (bytes .entry)) (now (memory .entry)))) (r .line) (r .hand) (now (lines .entry)) (now (bytes .entry)) (now (memory .exit)) ⌝ }
+{
+    if !rows_fit(l, lines, bytes) {
+        return Spot { line: l, hand };
+    }
+    let free = line::lowest_free(lines, l);
+    if free < l {
+        return Spot { line: free, hand };
+    }
+    let i = line::victim(lines, l, hand);
+    if l <= i {
+        return Spot { line: i, hand };
+    }
+    write_back(i, lines, bytes, memory);
+    Spot {
+        line: i,
+        hand: line::after(l, i),
+    }
+}
+
+// Bringing in a block that no line has: it is placed, and its 64 bytes are copied from memory, clean.
+pub fn fetch(
+    l: usize,
+    hand: usize,
+    b: u32,
+    lines: &mut [u32],
+    bytes: &mut [u8],
+    memory: &mut [u8],
+) -> Spot
+    ensures { λ r. ⌜ Gives (fetched l hand b (rows (now (lines .entry)) (now (bytes .entry)) (now (memory .entry)))) (r .line) (r .hand) (now (lines .exit)) (now (bytes .exit)) (now (memory .exit)) ⌝ }
+{
+    let spot = place(l, hand, lines, bytes, memory);
+    let p = spot.line;
+    if l <= p {
+        return Spot { line: l, hand };
+    }
+    let block = block::read_block(memory, Geometry::block_place(b));
+    lines[p] = line::word(b, false, 0);
+    block::write_block(bytes, Geometry::BLOCK_LEN * p, &block);
+    spot
+}
+
+// Bringing in block b: the line that has it, else it is fetched.
+pub fn bring_in(
+    l: usize,
+    hand: usize,
+    b: u32,
+    lines: &mut [u32],
+    bytes: &mut [u8],
+    memory: &mut [u8],
+) -> Spot
+    ensures { λ r. ⌜ Gives (bringIn l hand b (rows (now (lines .entry)) (now (bytes .entry)) (now (memory .entry)))) (r .line) (r .hand) (now (lines .exit)) (now (bytes .exit)) (now (memory .exit)) ⌝ }
+{
+    let i = line::line_of(lines, l, b);
+    if i < l {
+        return Spot { line: i, hand };
+    }
+    fetch(l, hand, b, lines, bytes, memory)
+}
+
+// Changed lines to memory, lowest line first, and marked clean, in rows that are of L lines.
+fn drain_all(l: usize, lines: &mut [u32], bytes: &[u8], memory: &mut [u8])
+    requires { ⌜ (l ≤ length (now lines)) × (length (now bytes) ≡ 64 * l) ⌝ }
+    ensures { λ _. ⌜ Drains (drained l (rows (now (lines .entry)) (now (bytes .entry)) (now (memory .entry)))) (now (lines .exit)) (now (memory .exit)) ⌝ }
+{
+    let mut i = 0;
+    while i < l {
+        write_back(i, lines, bytes, memory);
+        lines[i] = line::cleaned(lines[i]);
+        i += 1;
+    }
+}
+
+// Changed lines to memory, lowest line first, and marked clean; the lines stay.
+pub fn drain(l: usize, lines: &mut [u32], bytes: &[u8], memory: &mut [u8])
+    ensures { λ _. ⌜ Drains (drainedRows l (rows (now (lines .entry)) (now (bytes .entry)) (now (memory .entry)))) (now (lines .exit)) (now (memory .exit)) ⌝ }
+{
+    if !rows_fit(l, lines, bytes) {
+        return;
+    }
+    drain_all(l, lines, bytes, memory);
+}
