@@ -1,5 +1,5 @@
--- Every access of the lock machine ends by the turn that it was promised: an invariant for each tracker that asks, on the turns it was given and its waits to come,
--- that holds when the circle begins, however the trackers stand, and is kept by every turn and by work that is given out.
+-- No promise of the lock machine is broken: an invariant on the turns that a tracker was given and its waits to come, which holds when the circle begins,
+-- however the trackers stand, and which every turn and every issue keep.
 use mathlib.Core.Path.{_≡_, refl, sym, subst}
 use mathlib.Core.Logic.{_≢_}
 use Prim.Native.Nat.{ℕ, zero, suc, _+_, _*_, _≤_, _<_}
@@ -8,261 +8,252 @@ use native.Mathlib.Decide.{ℕ-discrete}
 use native.Mathlib.Omega.{arith}
 use Rattle.circle.specs.Order.{next}
 use Rattle.circle.proofs.Round.{dist, next-in, dist-lt, dist-same, dist-pos, dist-next, dist-own, dist-inj}
-use Rattle.circle.proofs.Lock.{Slot, idle, wait, hold, Holds, Within, Free, But, Turn, pass, answer, come, stay, take, go, leave, Promised}
+use Rattle.circle.proofs.Lock.{Slot, rests, wants, holds, Holds, Within, Free, But, Turn, passed, ended, nearer, waited, took, went-on, let-go, Promised}
 
--- the steps that a holder has left
+-- the turns for which a slot still holds
 abbrev pub rest : Slot → ℕ
-rest idle = 0
-rest (wait b k o a n) = 0
-rest (hold b r a n) = suc r
+rest rests = 0
+rest (wants b k o a n) = 0
+rest (holds b r a n) = suc r
 
 rest-pos : (b : ℕ) (s : Slot) → Holds b s → 1 ≤ rest s
-rest-pos b (hold b' r a n) e = omega arith
+rest-pos b (holds b' r a n) e = omega arith
 
--- The promise of a tracker at q that asks for b, where p has the next turn. Each bound is on its turns had, those it has after it gets b, and its waits to come:
--- with b free, H for each place from p up to q; with b held by h, H for each place between h and q, and h's own steps (one less if h comes before q).
-pub record Waits (M H : ℕ) (c : ℕ → Slot) (p q b o a n : ℕ) : Type 0 where
-  pub base : a + suc o ≤ n
-  pub free : Free M b c → a + suc o + H * dist (suc M) p q ≤ n
-  pub weak : (h g : ℕ) → h < suc M → Holds b (c h) → dist (suc M) h q ≡ suc g → a + suc o + H * g + rest (c h) ≤ suc n
-  pub strong : (h g : ℕ) → h < suc M → Holds b (c h) → dist (suc M) h q ≡ suc g → dist (suc M) p q ≤ g → a + suc o + H * g + rest (c h) ≤ n
+module _ (M H : ℕ) where
+  -- from place p forward to place q
+  abbrev far : ℕ → ℕ → ℕ
+  far p q = dist (suc M) p q
 
-abbrev pub Good : (M H : ℕ) (c : ℕ → Slot) (p q : ℕ) → Slot → Type 0
-Good M H c p q idle = Unit {0}
-Good M H c p q (wait b zero o a n) = Waits M H c p q b o a n
-Good M H c p q (wait b (suc k) o a n) = a + suc k + suc o + H * M ≤ n
-Good M H c p q (hold b r a n) = (a + suc r ≤ n) × (suc r ≤ H)
+  -- The tracker at q asks for lock b, and p has the next turn. Its turns so far, those that it has once it gets b, and its waits to come are within its promise.
+  -- With b free, each tracker from p up to q may take b before it: H waits each. With b held by h, those between h and q may, and h has its rest;
+  -- that is one wait less where h has its turn before q does.
+  pub record Asks (c : ℕ → Slot) (p q b o a n : ℕ) : Type 0 where
+    pub base : a + suc o ≤ n
+    pub free : Free M H b c → a + suc o + H * dist (suc M) p q ≤ n
+    pub late : (h g : ℕ) → h < suc M → Holds b (c h) → dist (suc M) h q ≡ suc g → a + suc o + H * g + rest (c h) ≤ suc n
+    pub soon : (h g : ℕ) → h < suc M → Holds b (c h) → dist (suc M) h q ≡ suc g → dist (suc M) p q ≤ g → a + suc o + H * g + rest (c h) ≤ n
 
--- every tracker is in order
-pub record Inv (M H : ℕ) (c : ℕ → Slot) (p : ℕ) : Type 0 where
-  pub place : p < suc M
-  pub good : (q : ℕ) → q < suc M → Good M H c p q (c q)
+  abbrev pub Good : (c : ℕ → Slot) (p q : ℕ) → Slot → Type 0
+  Good c p q rests = Unit {0}
+  Good c p q (wants b zero o a n) = Asks c p q b o a n
+  Good c p q (wants b (suc k) o a n) = a + suc k + suc o + H * M ≤ n
+  Good c p q (holds b r a n) = (a + suc r ≤ n) × (suc r ≤ H)
 
-in-time : (M H : ℕ) (c : ℕ → Slot) (p q : ℕ) (s : Slot) → Good M H c p q s → Within s
-in-time M H c p q idle g = tt
-in-time M H c p q (wait b zero o a n) g = let h = g .base in omega arith
-in-time M H c p q (wait b (suc k) o a n) g = omega arith
-in-time M H c p q (hold b r a n) g = omega arith
+  -- every tracker's promise is being kept; place p has the next turn
+  pub record Inv (c : ℕ → Slot) (p : ℕ) : Type 0 where
+    pub place : p < suc M
+    pub good : (q : ℕ) → q < suc M → Good c p q (c q)
 
--- no holder has more than H steps left
-rest-le : (M H : ℕ) (c : ℕ → Slot) (p q : ℕ) (s : Slot) → Good M H c p q s → rest s ≤ H
-rest-le M H c p q idle g = omega arith
-rest-le M H c p q (wait b k o a n) g = omega arith
-rest-le M H c p q (hold b r a n) g = g .1
+  within : (c : ℕ → Slot) (p q : ℕ) (s : Slot) → Good c p q s → Within s
+  within c p q rests g = tt
+  within c p q (wants b zero o a n) g = let h = g .base in omega arith
+  within c p q (wants b (suc k) o a n) g = omega arith
+  within c p q (holds b r a n) g = omega arith
 
--- who comes to ask has at most H * M waits before it, wherever the locks are
-arrive : (M H : ℕ) (c : ℕ → Slot) (p q b o a n : ℕ) → p < suc M → q < suc M → ((h : ℕ) → h < suc M → rest (c h) ≤ H) → a + suc o + H * M ≤ n → Waits M H c p q b o a n
-arrive M H c p q b o a n hp hq few le = record {
-  base = omega arith;
-  free = λ f. let d : dist (suc M) p q ≤ M = let e = dist-lt (suc M) p q hp hq in omega arith in let l = mul-le-mul-left H d in omega arith;
-  weak = λ h g hh k e. let l = at h g hh e in omega arith;
-  strong = λ h g hh k e le'. at h g hh e;
-}
-  where
-    at : (h g : ℕ) → h < suc M → dist (suc M) h q ≡ suc g → a + suc o + H * g + rest (c h) ≤ n
-    at h g hh e =
-        let d = dist-lt (suc M) h q hh hq in
-        let f : suc g ≤ M = omega arith in
-        let l = mul-le-mul-left H f in
-        let r = few h hh in
+  -- no hold is too long
+  rest-le : (c : ℕ → Slot) (p q : ℕ) (s : Slot) → Good c p q s → rest s ≤ H
+  rest-le c p q rests g = omega arith
+  rest-le c p q (wants b k o a n) g = omega arith
+  rest-le c p q (holds b r a n) g = g .1
+
+  -- who comes to ask has H waits at most for each other tracker, wherever the locks are
+  comes : (c : ℕ → Slot) (p q b o a n : ℕ) → p < suc M → q < suc M → ((h : ℕ) → h < suc M → rest (c h) ≤ H) → a + suc o + H * M ≤ n → Asks c p q b o a n
+  comes c p q b o a n hp hq short le = record {
+    base = omega arith;
+    free = λ f. let d : far p q ≤ M = let e = dist-lt (suc M) p q hp hq in omega arith in let l = mul-le-mul-left H d in omega arith;
+    late = λ h g hh k e. let l = at h g hh e in omega arith;
+    soon = λ h g hh k e le'. at h g hh e;
+  }
+    where
+      at : (h g : ℕ) → h < suc M → far h q ≡ suc g → a + suc o + H * g + rest (c h) ≤ n
+      at h g hh e =
+          let d = dist-lt (suc M) h q hh hq in
+          let f : suc g ≤ M = omega arith in
+          let l = mul-le-mul-left H f in
+          let r = short h hh in
+          omega arith
+
+  -- The slot at x changes, and the next turn is at p' and no longer at p: what one who asks at another place q needs of x alone.
+  carries : (c c' : ℕ → Slot) (x p p' q b o a n : ℕ) → But M H x c c' → Asks c p q b o a n
+      → ((h g : ℕ) → h < suc M → h ≢ x → far h q ≡ suc g → far p' q ≤ g → far p q ≤ g)
+      → (Free M H b c' → a + suc o + H * far p' q ≤ n)
+      → (Holds b (c' x) → (g : ℕ) → far x q ≡ suc g → a + suc o + H * g + rest (c' x) ≤ n) → Asks c' p' q b o a n
+  carries c c' x p p' q b o a n but w near free own = record {
+    base = w .base;
+    free = free;
+    late = λ h g hh k e. late h g hh k e (ℕ-discrete h x);
+    soon = λ h g hh k e le. soon h g hh k e le (ℕ-discrete h x);
+  }
+    where
+      mine : (h g : ℕ) → Holds b (c' h) → far h q ≡ suc g → h ≡ x → a + suc o + H * g + rest (c' h) ≤ n
+      mine h g k e eq = rw eq (own (subst (λ (i : ℕ). Holds b (c' i)) eq k) g (subst (λ (i : ℕ). far i q ≡ suc g) eq e))
+
+      late : (h g : ℕ) → h < suc M → Holds b (c' h) → far h q ≡ suc g → Dec (h ≡ x) → a + suc o + H * g + rest (c' h) ≤ suc n
+      late h g hh k e (yes eq) = let l = mine h g k e eq in omega arith
+      late h g hh k e (no ne) = rw (but h hh ne) (w .late h g hh (subst (Holds b) (but h hh ne) k) e)
+
+      soon : (h g : ℕ) → h < suc M → Holds b (c' h) → far h q ≡ suc g → far p' q ≤ g → Dec (h ≡ x) → a + suc o + H * g + rest (c' h) ≤ n
+      soon h g hh k e le (yes eq) = mine h g k e eq
+      soon h g hh k e le (no ne) = rw (but h hh ne) (w .soon h g hh (subst (Holds b) (but h hh ne) k) e (near h g hh ne e le))
+
+  -- where x held b before only if it does after, a lock free after was free before
+  was-free : (c c' : ℕ → Slot) (x b : ℕ) → x < suc M → But M H x c c' → (Holds b (c x) → Holds b (c' x)) → Free M H b c' → Free M H b c
+  was-free c c' x b hx but keep f h hh k = at (ℕ-discrete h x)
+    where
+      at : Dec (h ≡ x) → ⊥
+      at (yes eq) = f x hx (keep (subst (λ (i : ℕ). Holds b (c i)) eq k))
+      at (no ne) = f h hh (rw (but h hh ne) k)
+
+  -- A turn of x, for one who asks at another place q.
+  module _ (c c' : ℕ → Slot) (x q b o a n : ℕ) (hx : x < suc M) (hq : q < suc M) (ne : x ≢ q) (but : But M H x c c') (w : Asks c x q b o a n) where
+    turn-carries : (Free M H b c' → a + suc o + H * far (next (suc M) x) q ≤ n)
+        → (Holds b (c' x) → (g : ℕ) → far x q ≡ suc g → a + suc o + H * g + rest (c' x) ≤ n) → Asks c' (next (suc M) x) q b o a n
+    turn-carries = carries c c' x x (next (suc M) x) q b o a n but w near
+      where
+        near : (h g : ℕ) → h < suc M → h ≢ x → far h q ≡ suc g → far (next (suc M) x) q ≤ g → far x q ≤ g
+        near h g hh nh e le =
+            let d = dist-next (suc M) x q hx hq ne in
+            let apart : far h q ≢ far x q = λ same. nh (dist-inj (suc M) h x q hh hx same) in
+            omega arith
+
+    still-free : (Holds b (c x) → Holds b (c' x)) → Free M H b c' → a + suc o + H * far (next (suc M) x) q ≤ n
+    still-free keep f =
+        let l = w .free (was-free c c' x b hx but keep f) in
+        let d = dist-next (suc M) x q hx hq ne in
+        let m : H * far (next (suc M) x) q ≤ H * far x q = mul-le-mul-left H (omega arith) in
         omega arith
 
--- A turn of x, for one who waits at another place q: what is asked of x alone.
-module _ (M H : ℕ) (c c' : ℕ → Slot) (x q b o a n : ℕ) (hx : x < suc M) (hq : q < suc M) (ne : x ≢ q) (but : But M x c c') (w : Waits M H c x q b o a n) where
-  -- x may take b, or hold it on, and then the bound holds with its rest; if b is free after the turn, the bound for that holds
-  from-x : (s' : Slot) → c' x ≡ s' → (Free M b c' → a + suc o + H * dist (suc M) (next (suc M) x) q ≤ n)
-      → (Holds b s' → (g : ℕ) → dist (suc M) x q ≡ suc g → a + suc o + H * g + rest s' ≤ n) → Waits M H c' (next (suc M) x) q b o a n
-  from-x s' e' f1 f2 = record {
-    base = w .base;
-    free = f1;
-    weak = λ h g hh k e. weak' h g hh k e (ℕ-discrete h x);
-    strong = λ h g hh k e le. strong' h g hh k e le (ℕ-discrete h x);
-  }
+    -- x does not hold b after its turn, and did not before
+    apart : (s s' : Slot) → c x ≡ s → c' x ≡ s' → (Holds b s → ⊥) → (Holds b s' → ⊥) → Asks c' (next (suc M) x) q b o a n
+    apart s s' e e' f f' = turn-carries (still-free (λ k. absurd (f (subst (Holds b) e k)))) (λ k. absurd (f' (subst (Holds b) e' k)))
+
+    -- x lets go of a lock
+    freed : (b' r a' n' : ℕ) → c x ≡ holds b' r a' n' → Dec (b ≡ b') → Free M H b c' → a + suc o + H * far (next (suc M) x) q ≤ n
+    freed b' r a' n' e (yes same) f =
+        let d = dist-next (suc M) x q hx hq ne in
+        let l : a + suc o + H * far (next (suc M) x) q + suc r ≤ suc n = rw e at (w .late x (far (next (suc M) x) q) hx (rw e same) (sym d)) in
+        omega arith
+    freed b' r a' n' e (no differs) f = still-free (λ k. absurd (differs (subst (Holds b) e k))) f
+
+    other : (s s' : Slot) → c x ≡ s → c' x ≡ s' → Turn M H c x s s' → Asks c' (next (suc M) x) q b o a n
+    other s s' e e' passed = apart s s' e e' (λ k. k) (λ k. k)
+    other s s' e e' (ended b' k' o' a' n') = apart s s' e e' (λ k. k) (λ k. k)
+    other s s' e e' (nearer b' k' o' a' n') = apart s s' e e' (λ k. k) (λ k. k)
+    other s s' e e' (waited b' o' a' n' h hh nh k') = apart s s' e e' (λ k. k) (λ k. k)
+    other s s' e e' (took b' o' a' n' r f le lh) = turn-carries (still-free (λ k. absurd (subst (Holds b) e k))) taken
+      where
+        taken : Holds b (c' x) → (g : ℕ) → far x q ≡ suc g → a + suc o + H * g + rest (c' x) ≤ n
+        taken k g d =
+            let same : b ≡ b' = subst (Holds b) e' k in
+            let l : a + suc o + H * suc g ≤ n = rw d at (w .free (λ h hh k'. f h hh (rw same at k'))) in
+            rw e' (omega arith)
+    other s s' e e' (went-on b' r r' a' n' le) = turn-carries (still-free (λ k. rw e' (subst (Holds b) e k))) used
+      where
+        used : Holds b (c' x) → (g : ℕ) → far x q ≡ suc g → a + suc o + H * g + rest (c' x) ≤ n
+        used k g d =
+            let same : b ≡ b' = subst (Holds b) e' k in
+            let l : a + suc o + H * g + suc (suc r) ≤ suc n = rw e at (w .late x g hx (rw e same) d) in
+            rw e' (omega arith)
+    other s s' e e' (let-go b' r a' n') = turn-carries (freed b' r a' n' e (ℕ-discrete b b')) (λ k. absurd (subst (Holds b) e' k))
+
+  -- A turn of q itself.
+  module _ (c c' : ℕ → Slot) (q : ℕ) (hq : q < suc M) (but : But M H q c c') (short : (h : ℕ) → h < suc M → rest (c' h) ≤ H) where
+    -- q waits, b being held: what was soon becomes late, and no holder comes before q in the round to come
+    waits-on : (b o a n h : ℕ) → h < suc M → h ≢ q → Holds b (c h) → Asks c q q b o a n → Asks c' (next (suc M) q) q b o (suc a) n
+    waits-on b o a n h hh nh k w = record {
+      base = base (far h q) (dist-pos (suc M) h q hh nh) refl;
+      free = λ f. absurd (f h hh (rw (but h hh nh) k));
+      late = λ i g hi ki e. late i g hi ki e (ℕ-discrete i q);
+      soon = λ i g hi ki e le. let d = dist-own (suc M) q hq in let u = dist-lt (suc M) i q hi hq in absurd (omega arith);
+    }
+      where
+        near : (g : ℕ) → far q q ≤ g
+        near g = let z = dist-same (suc M) q hq in omega arith
+
+        late : (i g : ℕ) → i < suc M → Holds b (c' i) → far i q ≡ suc g → Dec (i ≡ q) → suc a + suc o + H * g + rest (c' i) ≤ suc n
+        late i g hi ki e (yes eq) = let z = dist-same (suc M) q hq in absurd (omega (arith, subst (λ (j : ℕ). far j q ≡ suc g) eq e))
+        late i g hi ki e (no ni) =
+            let l : a + suc o + H * g + rest (c' i) ≤ n = rw (but i hi ni) (w .soon i g hi (rw (but i hi ni) at ki) e (near g)) in
+            omega arith
+
+        base : (d : ℕ) → 1 ≤ d → far h q ≡ d → suc a + suc o ≤ n
+        base zero l e = absurd (omega arith)
+        base (suc g) l e =
+            let m = w .soon h g hh k e (near g) in
+            let r = rest-pos b (c h) k in
+            omega arith
+
+    own : (s s' : Slot) → Turn M H c q s s' → Good c q q s → Good c' (next (suc M) q) q s'
+    own s s' passed g = tt
+    own s s' (ended b k o a n) g = tt
+    own s s' (nearer b zero o a n) g = comes c' (next (suc M) q) q b o (suc a) n (next-in (suc M) q hq) hq short (omega arith)
+    own s s' (nearer b (suc k) o a n) g = omega arith
+    own s s' (waited b o a n h hh nh k) g = waits-on b o a n h hh nh k g
+    own s s' (took b o a n r f le lh) g = let l = g .base in (omega arith, lh)
+    own s s' (went-on b r r' a n le) g = (omega arith, omega arith)
+    own s s' (let-go b r a n) g = tt
+
+  rest-turn : (c : ℕ → Slot) (x : ℕ) (s s' : Slot) → Turn M H c x s s' → rest s ≤ H → rest s' ≤ H
+  rest-turn c x s s' passed l = l
+  rest-turn c x s s' (ended b k o a n) l = l
+  rest-turn c x s s' (nearer b k o a n) l = l
+  rest-turn c x s s' (waited b o a n h hh nh k) l = l
+  rest-turn c x s s' (took b o a n r f le lh) l = lh
+  rest-turn c x s s' (went-on b r r' a n le) l = omega arith
+  rest-turn c x s s' (let-go b r a n) l = omega arith
+
+  -- a slot that does not change, through another's turn
+  stays : (c c' : ℕ → Slot) (x q : ℕ) → x < suc M → q < suc M → x ≢ q → But M H x c c' → Turn M H c x (c x) (c' x) → (s : Slot) → Good c x q s → Good c' (next (suc M) x) q s
+  stays c c' x q hx hq ne but turn rests g = tt
+  stays c c' x q hx hq ne but turn (wants b zero o a n) g = other c c' x q b o a n hx hq ne but g (c x) (c' x) refl refl turn
+  stays c c' x q hx hq ne but turn (wants b (suc k) o a n) g = g
+  stays c c' x q hx hq ne but turn (holds b r a n) g = g
+
+  pub inv-turn : (c c' : ℕ → Slot) (p : ℕ) → Inv c p → Turn M H c p (c p) (c' p) → But M H p c c' → Inv c' (next (suc M) p)
+  inv-turn c c' p inv turn but = record { place = next-in (suc M) p (inv .place); good = λ q hq. at q hq (ℕ-discrete q p) }
     where
-      mine : (h g : ℕ) → Holds b (c' h) → dist (suc M) h q ≡ suc g → h ≡ x → a + suc o + H * g + rest (c' h) ≤ n
-      mine h g k e eq =
-          let k' : Holds b s' = subst (Holds b) e' (subst (λ (i : ℕ). Holds b (c' i)) eq k) in
-          let d : dist (suc M) x q ≡ suc g = subst (λ (i : ℕ). dist (suc M) i q ≡ suc g) eq e in
-          rw (eq, e') (f2 k' g d)
+      short : (h : ℕ) → h < suc M → Dec (h ≡ p) → rest (c' h) ≤ H
+      short h hh (yes eq) = rw eq (rest-turn c p (c p) (c' p) turn (rest-le c p p (c p) (inv .good p (inv .place))))
+      short h hh (no ne) = rw (but h hh ne) (rest-le c p h (c h) (inv .good h hh))
 
-      weak' : (h g : ℕ) → h < suc M → Holds b (c' h) → dist (suc M) h q ≡ suc g → Dec (h ≡ x) → a + suc o + H * g + rest (c' h) ≤ suc n
-      weak' h g hh k e (yes eq) = let l = mine h g k e eq in omega arith
-      weak' h g hh k e (no nh) = rw (but h hh nh) (w .weak h g hh (subst (Holds b) (but h hh nh) k) e)
+      at : (q : ℕ) → q < suc M → Dec (q ≡ p) → Good c' (next (suc M) p) q (c' q)
+      at q hq (yes eq) = rw eq (own c c' p (inv .place) but (λ h hh. short h hh (ℕ-discrete h p)) (c p) (c' p) turn (inv .good p (inv .place)))
+      at q hq (no ne) = rw (but q hq ne) (stays c c' p q (inv .place) hq (λ e. ne (sym e)) but turn (c q) (inv .good q hq))
 
-      strong' : (h g : ℕ) → h < suc M → Holds b (c' h) → dist (suc M) h q ≡ suc g → dist (suc M) (next (suc M) x) q ≤ g → Dec (h ≡ x) → a + suc o + H * g + rest (c' h) ≤ n
-      strong' h g hh k e le (yes eq) = mine h g k e eq
-      strong' h g hh k e le (no nh) =
-          let d = dist-next (suc M) x q hx hq ne in
-          let apart : dist (suc M) h q ≢ dist (suc M) x q = λ same. nh (dist-inj (suc M) h x q hh hx same) in
-          let near : dist (suc M) x q ≤ g = omega arith in
-          rw (but h hh nh) (w .strong h g hh (subst (Holds b) (but h hh nh) k) e near)
+  -- what is promised from now on, wherever the locks are
+  promised : (c : ℕ → Slot) (p q : ℕ) → p < suc M → q < suc M → ((h : ℕ) → h < suc M → rest (c h) ≤ H) → (s : Slot) → Promised M H s → Good c p q s
+  promised c p q hp hq short rests g = tt
+  promised c p q hp hq short (wants b zero o a n) g = comes c p q b o a n hp hq short (omega arith)
+  promised c p q hp hq short (wants b (suc k) o a n) g = omega arith
+  promised c p q hp hq short (holds b r a n) g = g
 
-  -- where x held b before only if it does after, a free b was free
-  still-free : (s s' : Slot) → c x ≡ s → c' x ≡ s' → (Holds b s → Holds b s') → Free M b c' → a + suc o + H * dist (suc M) (next (suc M) x) q ≤ n
-  still-free s s' e e' keep f' =
-      let l = w .free f in
-      let d = dist-next (suc M) x q hx hq ne in
-      let m : H * dist (suc M) (next (suc M) x) q ≤ H * dist (suc M) x q = mul-le-mul-left H (omega arith) in
-      omega arith
+  rest-promised : (s : Slot) → Promised M H s → rest s ≤ H
+  rest-promised rests g = omega arith
+  rest-promised (wants b k o a n) g = omega arith
+  rest-promised (holds b r a n) g = g .1
+
+  pub inv-begin : (c : ℕ → Slot) (p : ℕ) → p < suc M → ((q : ℕ) → q < suc M → Promised M H (c q)) → Inv c p
+  inv-begin c p hp g = record { place = hp; good = λ q hq. promised c p q hp hq (λ h hh. rest-promised (c h) (g h hh)) (c q) (g q hq) }
+
+  -- Work issued to x, which rests: x holds nothing before and nothing after.
+  unmoved : (c c' : ℕ → Slot) (p x q : ℕ) → x < suc M → But M H x c c' → ((b : ℕ) → Holds b (c x) → ⊥) → ((b : ℕ) → Holds b (c' x) → ⊥) → (s : Slot) → Good c p q s → Good c' p q s
+  unmoved c c' p x q hx but f f' rests g = tt
+  unmoved c c' p x q hx but f f' (wants b zero o a n) g =
+      carries c c' x p p q b o a n but g (λ h i hh ne e le. le) (λ u. g .free (was-free c c' x b hx but (λ k. absurd (f b k)) u)) (λ k. absurd (f' b k))
+  unmoved c c' p x q hx but f f' (wants b (suc k) o a n) g = g
+  unmoved c c' p x q hx but f f' (holds b r a n) g = g
+
+  pub inv-issue : (c c' : ℕ → Slot) (p x b k o n : ℕ) → Inv c p → x < suc M → c x ≡ rests → c' x ≡ wants b k o 0 n → H * M + k + suc o ≤ n → But M H x c c' → Inv c' p
+  inv-issue c c' p x b k o n inv hx e e' le but = record { place = inv .place; good = λ q hq. at q hq (ℕ-discrete q x) }
     where
-      f₁ : (h : ℕ) → h < suc M → Holds b (c h) → Dec (h ≡ x) → ⊥
-      f₁ h hh k (yes eq) = f' x hx (rw e' (keep (subst (Holds b) e (subst (λ (i : ℕ). Holds b (c i)) eq k))))
-      f₁ h hh k (no nh) = f' h hh (rw (but h hh nh) k)
+      short : (h : ℕ) → h < suc M → Dec (h ≡ x) → rest (c' h) ≤ H
+      short h hh (yes eq) = rw (eq, e') (omega arith)
+      short h hh (no ne) = rw (but h hh ne) (rest-le c p h (c h) (inv .good h hh))
 
-      f : Free M b c
-      f h hh k = f₁ h hh k (ℕ-discrete h x)
+      at : (q : ℕ) → q < suc M → Dec (q ≡ x) → Good c' p q (c' q)
+      at q hq (yes eq) = rw (eq, e') (promised c' p x (inv .place) hx (λ h hh. short h hh (ℕ-discrete h x)) (wants b k o 0 n) (omega arith))
+      at q hq (no ne) = rw (but q hq ne) (unmoved c c' p x q hx but (λ b' k'. subst (Holds b') e k') (λ b' k'. subst (Holds b') e' k') (c q) (inv .good q hq))
 
-  -- x lets go of b
-  let-go : (b' r a' n' : ℕ) → c x ≡ hold b' r a' n' → c' x ≡ idle → Dec (b ≡ b') → Free M b c' → a + suc o + H * dist (suc M) (next (suc M) x) q ≤ n
-  let-go b' r a' n' e e' (yes same) f' =
-      let d = dist-next (suc M) x q hx hq ne in
-      let l : a + suc o + H * dist (suc M) (next (suc M) x) q + suc r ≤ suc n = rw e at (w .weak x (dist (suc M) (next (suc M) x) q) hx (rw e same) (sym d)) in
-      omega arith
-  let-go b' r a' n' e e' (no other) f' = still-free (hold b' r a' n') idle e e' other f'
-
-  other : (s s' : Slot) → c x ≡ s → c' x ≡ s' → Turn M H c x s s' → Waits M H c' (next (suc M) x) q b o a n
-  other s s' e e' pass = from-x idle e' (still-free idle idle e e' (λ k. k)) (λ k. absurd k)
-  other s s' e e' (answer b' k' o' a' n') = from-x idle e' (still-free (wait b' k' o' a' n') idle e e' (λ k. k)) (λ k. absurd k)
-  other s s' e e' (come b' k' o' a' n') = from-x s' e' (still-free s s' e e' (λ k. k)) (λ k. absurd k)
-  other s s' e e' (stay b' o' a' n' h hh nh k') = from-x s' e' (still-free s s' e e' (λ k. k)) (λ k. absurd k)
-  other s s' e e' (take b' o' a' n' r f le lh) = from-x s' e' (still-free s s' e e' (λ k. absurd k)) taken
-    where
-      taken : b ≡ b' → (g : ℕ) → dist (suc M) x q ≡ suc g → a + suc o + H * g + suc r ≤ n
-      taken same g d =
-          let l : a + suc o + H * suc g ≤ n = rw d at (w .free (λ h hh k. f h hh (rw same at k))) in
-          omega arith
-  other s s' e e' (go b' r r' a' n' le) = from-x s' e' (still-free s s' e e' (λ k. k)) used
-    where
-      used : b ≡ b' → (g : ℕ) → dist (suc M) x q ≡ suc g → a + suc o + H * g + suc r' ≤ n
-      used same g d =
-          let l : a + suc o + H * g + suc (suc r) ≤ suc n = rw e at (w .weak x g hx (rw e same) d) in
-          omega arith
-  other s s' e e' (leave b' r a' n') = from-x idle e' (let-go b' r a' n' e e' (ℕ-discrete b b')) (λ k. absurd k)
-
--- A turn of q itself.
-module _ (M H : ℕ) (c c' : ℕ → Slot) (q : ℕ) (hq : q < suc M) (but : But M q c c') (few : (h : ℕ) → h < suc M → rest (c' h) ≤ H) where
-  -- q waits a turn, b being held: its strong bound is one more than its new weak one, and no holder comes after it in the circle to come
-  wait-on : (b o a n h : ℕ) → h < suc M → h ≢ q → Holds b (c h) → Waits M H c q q b o a n → Waits M H c' (next (suc M) q) q b o (suc a) n
-  wait-on b o a n h hh nh k w = record {
-    base = base';
-    free = λ f. absurd (f h hh (rw (but h hh nh) k));
-    weak = λ i g hi ki e. weak' i g hi ki e (ℕ-discrete i q);
-    strong = λ i g hi ki e le. let d = dist-own (suc M) q hq in let u = dist-lt (suc M) i q hi hq in absurd (omega arith);
-  }
-    where
-      near : (g : ℕ) → dist (suc M) q q ≤ g
-      near g = let z = dist-same (suc M) q hq in omega arith
-
-      weak' : (i g : ℕ) → i < suc M → Holds b (c' i) → dist (suc M) i q ≡ suc g → Dec (i ≡ q) → suc a + suc o + H * g + rest (c' i) ≤ suc n
-      weak' i g hi ki e (yes eq) = let z = dist-same (suc M) q hq in absurd (omega (arith, subst (λ (j : ℕ). dist (suc M) j q ≡ suc g) eq e))
-      weak' i g hi ki e (no ni) =
-          let l : a + suc o + H * g + rest (c' i) ≤ n = rw (but i hi ni) (w .strong i g hi (rw (but i hi ni) at ki) e (near g)) in
-          omega arith
-
-      from : (g : ℕ) → dist (suc M) h q ≡ suc g → suc a + suc o ≤ n
-      from g e =
-          let l = w .strong h g hh k e (near g) in
-          let r = rest-pos b (c h) k in
-          omega arith
-
-      pos : (d : ℕ) → 1 ≤ d → dist (suc M) h q ≡ d → suc a + suc o ≤ n
-      pos zero l e = absurd (omega arith)
-      pos (suc g) l e = from g e
-
-      base' : suc a + suc o ≤ n
-      base' = pos (dist (suc M) h q) (dist-pos (suc M) h q hh nh) refl
-
-  own : (s s' : Slot) → Turn M H c q s s' → Good M H c q q s → Good M H c' (next (suc M) q) q s'
-  own s s' pass g = tt
-  own s s' (answer b k o a n) g = tt
-  own s s' (come b zero o a n) g = arrive M H c' (next (suc M) q) q b o (suc a) n (next-in (suc M) q hq) hq few (omega arith)
-  own s s' (come b (suc k) o a n) g = omega arith
-  own s s' (stay b o a n h hh nh k) g = wait-on b o a n h hh nh k g
-  own s s' (take b o a n r f le lh) g = let l = g .base in (omega arith, lh)
-  own s s' (go b r r' a n le) g = (omega arith, omega arith)
-  own s s' (leave b r a n) g = tt
-
--- the holder's rest is at most H after a turn of x too
-rest-step : (M H : ℕ) (c : ℕ → Slot) (x : ℕ) (s s' : Slot) → Turn M H c x s s' → rest s ≤ H → rest s' ≤ H
-rest-step M H c x s s' pass l = l
-rest-step M H c x s s' (answer b k o a n) l = l
-rest-step M H c x s s' (come b k o a n) l = l
-rest-step M H c x s s' (stay b o a n h hh nh k) l = l
-rest-step M H c x s s' (take b o a n r f le lh) l = lh
-rest-step M H c x s s' (go b r r' a n le) l = omega arith
-rest-step M H c x s s' (leave b r a n) l = omega arith
-
--- a slot that does not change keeps its order through another's turn
-kept : (M H : ℕ) (c c' : ℕ → Slot) (x q : ℕ) → x < suc M → q < suc M → x ≢ q → But M x c c' → Turn M H c x (c x) (c' x) → (s : Slot) → Good M H c x q s → Good M H c' (next (suc M) x) q s
-kept M H c c' x q hx hq ne but st idle g = tt
-kept M H c c' x q hx hq ne but st (wait b zero o a n) g = other M H c c' x q b o a n hx hq ne but g (c x) (c' x) refl refl st
-kept M H c c' x q hx hq ne but st (wait b (suc k) o a n) g = g
-kept M H c c' x q hx hq ne but st (hold b r a n) g = g
-
-pub inv-turn : (M H : ℕ) (c c' : ℕ → Slot) (p : ℕ) → Inv M H c p → Turn M H c p (c p) (c' p) → But M p c c' → Inv M H c' (next (suc M) p)
-inv-turn M H c c' p inv st but = record { place = next-in (suc M) p (inv .place); good = λ q hq. at q hq (ℕ-discrete q p) }
-  where
-    few₁ : (h : ℕ) → h < suc M → Dec (h ≡ p) → rest (c' h) ≤ H
-    few₁ h hh (yes eq) = rw eq (rest-step M H c p (c p) (c' p) st (rest-le M H c p p (c p) (inv .good p (inv .place))))
-    few₁ h hh (no ne) = rw (but h hh ne) (rest-le M H c p h (c h) (inv .good h hh))
-
-    few : (h : ℕ) → h < suc M → rest (c' h) ≤ H
-    few h hh = few₁ h hh (ℕ-discrete h p)
-
-    at : (q : ℕ) → q < suc M → Dec (q ≡ p) → Good M H c' (next (suc M) p) q (c' q)
-    at q hq (yes eq) = rw eq (own M H c c' p (inv .place) but few (c p) (c' p) st (inv .good p (inv .place)))
-    at q hq (no ne) = rw (but q hq ne) (kept M H c c' p q (inv .place) hq (λ e. ne (sym e)) but st (c q) (inv .good q hq))
-
--- Work given to the idle tracker x: nobody else's promise moves, for x holds nothing before and nothing after.
-issued : (M H : ℕ) (c c' : ℕ → Slot) (p x q : ℕ) → x < suc M → But M x c c' → ((b : ℕ) → Holds b (c x) → ⊥) → ((b : ℕ) → Holds b (c' x) → ⊥) → (s : Slot) → Good M H c p q s → Good M H c' p q s
-issued M H c c' p x q hx but e e' idle g = tt
-issued M H c c' p x q hx but e e' (wait b zero o a n) w = record {
-  base = w .base;
-  free = λ f'. w .free (λ h hh k. f₁ f' h hh k (ℕ-discrete h x));
-  weak = λ h g hh k d. weak' h g hh k d (ℕ-discrete h x);
-  strong = λ h g hh k d le. strong' h g hh k d le (ℕ-discrete h x);
-}
-  where
-    f₁ : Free M b c' → (h : ℕ) → h < suc M → Holds b (c h) → Dec (h ≡ x) → ⊥
-    f₁ f' h hh k (yes eq) = e b (subst (λ (i : ℕ). Holds b (c i)) eq k)
-    f₁ f' h hh k (no nh) = f' h hh (rw (but h hh nh) k)
-
-    weak' : (h g : ℕ) → h < suc M → Holds b (c' h) → dist (suc M) h q ≡ suc g → Dec (h ≡ x) → a + suc o + H * g + rest (c' h) ≤ suc n
-    weak' h g hh k d (yes eq) = absurd (e' b (subst (λ (i : ℕ). Holds b (c' i)) eq k))
-    weak' h g hh k d (no nh) = rw (but h hh nh) (w .weak h g hh (rw (but h hh nh) at k) d)
-
-    strong' : (h g : ℕ) → h < suc M → Holds b (c' h) → dist (suc M) h q ≡ suc g → dist (suc M) p q ≤ g → Dec (h ≡ x) → a + suc o + H * g + rest (c' h) ≤ n
-    strong' h g hh k d le (yes eq) = absurd (e' b (subst (λ (i : ℕ). Holds b (c' i)) eq k))
-    strong' h g hh k d le (no nh) = rw (but h hh nh) (w .strong h g hh (rw (but h hh nh) at k) d le)
-issued M H c c' p x q hx but e e' (wait b (suc k) o a n) g = g
-issued M H c c' p x q hx but e e' (hold b r a n) g = g
-
--- work as it is promised, wherever the locks are
-promised : (M H : ℕ) (c : ℕ → Slot) (p q : ℕ) → p < suc M → q < suc M → ((h : ℕ) → h < suc M → rest (c h) ≤ H) → (s : Slot) → Promised M H s → Good M H c p q s
-promised M H c p q hp hq few idle g = tt
-promised M H c p q hp hq few (wait b zero o a n) g = arrive M H c p q b o a n hp hq few (omega arith)
-promised M H c p q hp hq few (wait b (suc k) o a n) g = omega arith
-promised M H c p q hp hq few (hold b r a n) g = g
-
-rest-promised : (M H : ℕ) (s : Slot) → Promised M H s → rest s ≤ H
-rest-promised M H idle g = omega arith
-rest-promised M H (wait b k o a n) g = omega arith
-rest-promised M H (hold b r a n) g = g .1
-
-pub inv-begin : (M H : ℕ) (c : ℕ → Slot) (p : ℕ) → p < suc M → ((q : ℕ) → q < suc M → Promised M H (c q)) → Inv M H c p
-inv-begin M H c p hp g = record { place = hp; good = λ q hq. promised M H c p q hp hq (λ h hh. rest-promised M H (c h) (g h hh)) (c q) (g q hq) }
-
-pub inv-issue : (M H : ℕ) (c c' : ℕ → Slot) (p x b k o n : ℕ) → Inv M H c p → x < suc M → c x ≡ idle → c' x ≡ wait b k o 0 n → H * M + k + suc o ≤ n → But M x c c' → Inv M H c' p
-inv-issue M H c c' p x b k o n inv hx e e' le but = record { place = inv .place; good = λ q hq. at q hq (ℕ-discrete q x) }
-  where
-    few : (h : ℕ) → h < suc M → Dec (h ≡ x) → rest (c' h) ≤ H
-    few h hh (yes eq) = rw (eq, e') (omega arith)
-    few h hh (no ne) = rw (but h hh ne) (rest-le M H c p h (c h) (inv .good h hh))
-
-    at : (q : ℕ) → q < suc M → Dec (q ≡ x) → Good M H c' p q (c' q)
-    at q hq (yes eq) = rw (eq, e') (promised M H c' p x (inv .place) hx (λ h hh. few h hh (ℕ-discrete h x)) (wait b k o 0 n) (omega arith))
-    at q hq (no ne) = rw (but q hq ne) (issued M H c c' p x q hx but (λ b' k'. subst (Holds b') e k') (λ b' k'. subst (Holds b') e' k') (c q) (inv .good q hq))
-
--- THE BOUND: no busy tracker was given as many turns as it was promised.
-pub bound : (M H : ℕ) (c : ℕ → Slot) (p : ℕ) → Inv M H c p → (q : ℕ) → q < suc M → Within (c q)
-bound M H c p inv q hq = in-time M H c p q (c q) (inv .good q hq)
+  -- THE BOUND: no busy tracker was given as many turns as it was promised.
+  pub bound : (c : ℕ → Slot) (p : ℕ) → Inv c p → (q : ℕ) → q < suc M → Within (c q)
+  bound c p inv q hq = within c p q (c q) (inv .good q hq)

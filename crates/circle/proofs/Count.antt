@@ -1,33 +1,37 @@
--- Every run keeps the count, and stays ready: so each ending says the turns it was given, and the circle may begin in any state of a run.
+-- The count, proved for every run: a busy tracker's turns are those given since its issue, up to 65,535, so its ending says them.
 use mathlib.Core.Path.{_≡_, refl, sym, ap, _∙_, subst}
-use mathlib.Core.Logic.{_≢_}
+use mathlib.Core.Logic.{⊎-elim}
 use mathlib.Core.Bool.{true, false}
 use mathlib.Core.List.{List, [], _∷_}
 use Prim.Native.Nat.{ℕ, suc, _<_, min}
 use native.Mathlib.Omega.{arith}
-use native.Mathlib.Decide.{ℕ-discrete}
 use Rattle.laws.proofs.Choice.{not-both-ways}
+use Rattle.laws.proofs.Splice.{lt-or-ge}
 use Rattle.laws.proofs.Scan.{all-at}
 use Rattle.tracker.specs.declared.Tracker.{Tracker}
 use Rattle.tracker.specs.Tracker.{isIdle}
 use Rattle.tracker.specs.Tracker as Tracker
 use Rattle.tracker.specs.Answer.{Said, ok, wait, moved, read, done, same}
 use Rattle.tracker.specs.Answer as Answer
+use Rattle.rules.specs.Whole.{whole}
 use Rattle.rules.specs.Calls.{Out, allIdle}
 use Rattle.rules.specs.Run.{Call, issues, steps, drains, lends, Kept, kept, does, ended}
+use Rattle.rules.proofs.Whole.{whole-facts}
 use Rattle.circle.specs.Table.{rule}
-use Rattle.circle.specs.Order.{Order}
 use Rattle.circle.specs.Ending.{Ending}
-use Rattle.circle.specs.Circle.{trackerIn, becomes, Circle, begins}
+use Rattle.circle.specs.Circle.{trackerIn, becomes}
 use Rattle.circle.specs.Count.{givenBy, givenAfter, givenIn, EveryEnding}
 use Rattle.circle.proofs.Becomes.{becomes-same, becomes-other}
 use Rattle.circle.proofs.Ready.{Ready, never-refused}
 use Rattle.circle.proofs.Calls.{bare, Outcome, refused, issued, stepped, drained, outcome, call-keeps}
-use Rattle.circle.proofs.Link.{Anew, anew, Stepped, by-table, still-busy, tick-min, ending-counts}
+use Rattle.circle.proofs.Link.{anew, each, Stepped, by-table, still-busy, tick-min, ending-counts}
 
--- each busy tracker's count is the turns given, up to 65,535
+-- a busy tracker's count is the turns given, up to 65,535
+abbrev CountsAt : (ℕ → ℕ) → ℕ → Tracker → Type 0
+CountsAt given x t = isIdle t ≡ false → t .turns ≡ min (given x) 65535
+
 abbrev Counts : Kept → (ℕ → ℕ) → Type 0
-Counts k given = (x : ℕ) → x < k .state .t → isIdle (trackerIn k x) ≡ false → trackerIn k x .turns ≡ min (given x) 65535
+Counts k given = (x : ℕ) → CountsAt given x (trackerIn k x)
 
 givenBy-bare : (c : Call) (given : ℕ → ℕ) → givenBy c given ≡ givenBy (bare c) given
 givenBy-bare (issues x write bottom g v) given = refl
@@ -53,15 +57,6 @@ after-accepted (done k) c given h = refl
 after-accepted (same k) c given h = refl
 after-accepted (Answer.no r) c given h = absurd (h r refl)
 
--- a tracker made anew with its count
-counts-anew : (k k' : Kept) (given given' : ℕ → ℕ) (x : ℕ) (t : Tracker) → Anew k k' x t → Counts k given
-    → (isIdle t ≡ false → t .turns ≡ min (given' x) 65535) → ((y : ℕ) → y ≢ x → given' y ≡ given y) → Counts k' given'
-counts-anew k k' given given' x t a c own other y h b = at (ℕ-discrete y x)
-  where
-    at : Dec (y ≡ x) → trackerIn k' y .turns ≡ min (given' y) 65535
-    at (yes q) = rw (q, a .own) (own (sym (ap isIdle (a .own)) ∙ subst (λ (z : ℕ). isIdle (trackerIn k' z) ≡ false) q b))
-    at (no ne) = rw (a .other y ne, other y ne) (c y (let e = a .count in omega arith) (sym (ap isIdle (a .other y ne)) ∙ b))
-
 -- what a run keeps
 record Counted (k : Kept) (given : ℕ → ℕ) : Type 0 where
   ready : Ready k
@@ -70,20 +65,23 @@ record Counted (k : Kept) (given : ℕ → ℕ) : Type 0 where
 module _ (k : Kept) (given : ℕ → ℕ) (K : Counted k given) where
   step-counts : (x : ℕ) → x < k .state .t → isIdle (trackerIn k x) ≡ false → Counts (kept (does k (steps x))) (givenAfter (does k (steps x) .said) (steps x) given)
   step-counts x h b = rw (after-accepted (does k (steps x) .said) (steps x) given (λ c e. never-refused k (K .ready) x c h b e))
-      (counts-anew k (kept (does k (steps x))) given (becomes given x (suc (given x))) x (r .left) (r .made) (K .counts)
-      (λ b'. rw (becomes-same given x (suc (given x)), still-busy (trackerIn k x) (r .left) (rule (r .held) (r .quit) (r .empty) (trackerIn k x .write) (trackerIn k x .phase)) (does k (steps x) .said) (r .by-rule) b' .turns)
-      (tick-min (trackerIn k x .turns) (given x) (K .counts x h b)))
-      (λ y ne. becomes-other given x y (suc (given x)) ne))
+      (each (CountsAt (becomes given x (suc (given x)))) k (kept (does k (steps x))) x (r .left) (r .made) own
+      (λ y ne b'. rw (becomes-other given x y (suc (given x)) ne) (K .counts y b')))
     where
       r : Stepped k x
       r = by-table k (K .ready) x h b
 
+      own : CountsAt (becomes given x (suc (given x))) x (r .left)
+      own b' =
+          let s = still-busy (trackerIn k x) (r .left) (rule (r .held) (r .quit) (r .empty) (trackerIn k x .write) (trackerIn k x .phase)) (does k (steps x) .said) (r .by-rule) b' in
+          rw (becomes-same given x (suc (given x))) (s .turns ∙ tick-min (trackerIn k x .turns) (given x) (K .counts x b))
+
   outcome-counts : (c : Call) (o : Out) → Outcome k c o → Counts (kept o) (givenAfter (o .said) c given)
   outcome-counts c o (refused r q z) = rw (z, q) (K .counts)
   outcome-counts c o (issued x write bottom g v h e is) =
-      rw (ap (λ (a : Out). a .said) is) (counts-anew k (kept o) given (becomes given x 0) x (Tracker.issued write bottom g v)
+      rw (ap (λ (a : Out). a .said) is) (each (CountsAt (becomes given x 0)) k (kept o) x (Tracker.issued write bottom g v)
       (anew k (kept o) x (Tracker.issued write bottom g v) (K .ready) h (ap (λ (a : Out). a .state .n) is) (ap (λ (a : Out). a .state .t) is) (ap (λ (a : Out). a .state .trackers) is))
-      (K .counts) (λ b. rw (becomes-same given x 0) (omega arith)) (λ y ne. becomes-other given x y 0 ne))
+      (λ b. rw (becomes-same given x 0) (omega arith)) (λ y ne b. rw (becomes-other given x y 0 ne) (K .counts y b)))
   outcome-counts c o (stepped x h b) = step-counts x h b
   outcome-counts c o (drained lines memory is) = rw is (K .counts)
 
@@ -98,28 +96,17 @@ unfolding ended givenIn
 run-counts k given [] K = K
 run-counts k given (c ∷ cs) K = run-counts (kept (does k c)) (givenAfter (does k c .said) c given) cs (call-counts k given K c)
 
-all-idle : (k : Kept) → allIdle (k .state) ≡ true → (x : ℕ) → x < k .state .t → isIdle (trackerIn k x) ≡ true
+all-idle : (k : Kept) → whole (k .state) ≡ true → allIdle (k .state) ≡ true → (x : ℕ) → isIdle (trackerIn k x) ≡ true
 unfolding allIdle
-all-idle k e x h = all-at (λ y. isIdle (trackerIn k y)) (k .state .t) e x h
+all-idle k w e x = ⊎-elim (λ h. all-at (λ y. isIdle (trackerIn k y)) (k .state .t) e x h) (λ h. whole-facts (k .state) w .tracked .above x h) (lt-or-ge x (k .state .t))
 
 -- THE COUNT
 pub every-ending : EveryEnding
 every-ending k w r i cs x said e = at (does (ended k cs) (steps x)) (outcome (ended k cs) (K .ready) (steps x)) refl
   where
     K : Counted (ended k cs) (givenIn k cs (λ y. 0))
-    K = run-counts k (λ y. 0) cs (record { ready = (w, r); counts = λ y h b. absurd (not-both-ways (all-idle k i y h) b) })
+    K = run-counts k (λ y. 0) cs (record { ready = (w, r); counts = λ y b. absurd (not-both-ways (all-idle k w i y) b) })
 
     at : (o : Out) → Outcome (ended k cs) (steps x) o → o ≡ does (ended k cs) (steps x) → said ≡ min (suc (givenIn k cs (λ y. 0) x)) 65535
     at o (refused c q z) is = absurd (subst (λ (a : Said). Ending a said) (ap (λ (a : Out). a .said) (sym is) ∙ q) e)
-    at o (stepped x' h b) is = ending-counts (ended k cs) x said (givenIn k cs (λ y. 0) x) (by-table (ended k cs) (K .ready) x h b) e (K .counts x h b)
-
--- Every state of a run is ready,
-pub run-keeps : (k : Kept) → Ready k → (cs : List Call) → Ready (ended k cs)
-unfolding ended
-run-keeps k s [] = s
-run-keeps k s (c ∷ cs) = run-keeps (kept (does k c)) (call-keeps k s c) cs
-
--- so the circle may begin there, whatever stands in the trackers.
-pub begins-anywhere : (k : Kept) → Ready k → (cs : List Call) (o : Order (ended k cs .state .t)) (i : ℕ) (given : ℕ → ℕ) → i < ended k cs .state .t
-    → Circle (ended k cs .state .t) o (ended k cs) i given (λ x. false)
-begins-anywhere k s cs o i given h = let e = run-keeps k s cs in begins (ended k cs) i given refl (e .0) (e .1) h
+    at o (stepped x' h b) is = ending-counts (ended k cs) x said (givenIn k cs (λ y. 0) x) (by-table (ended k cs) (K .ready) x h b) e (K .counts x b)

@@ -10,7 +10,8 @@ use Rattle.laws.proofs.Choice.{not-both-ways}
 use Rattle.circle.specs.Order.{next, Order}
 use Rattle.circle.specs.Table.{Move, waits, to, ends}
 use Rattle.circle.specs.LastTurn.{bound}
-use Rattle.circle.proofs.Lock.{Slot, idle, wait, hold, Holds, Within, Free, But, Turn, pass, answer, come, stay, take, go, leave, Promised}
+use Rattle.circle.proofs.Lock.{Slot, Holds, Within, Free, But, Turn, passed, ended, nearer, waited, took, went-on, let-go, Promised}
+use Rattle.circle.proofs.Lock as Lock
 use Rattle.circle.proofs.Bound.{Inv, inv-begin, inv-issue, inv-turn}
 use Rattle.circle.proofs.Bound as Bound
 
@@ -61,9 +62,9 @@ pub record Access (At : Type 0) : Type 0 where
 
 -- where an access stands, as a slot: a turns given, n promised
 abbrev pub slotAt : (e a n : ℕ) (write : Bool) (b : ℕ) → Stand → Slot
-slotAt e a n write b rests = idle
-slotAt e a n write b (before k) = wait b k (later e write) a n
-slotAt e a n write b (after r) = hold b r a n
+slotAt e a n write b rests = Lock.rests
+slotAt e a n write b (before k) = Lock.wants b k (later e write) a n
+slotAt e a n write b (after r) = Lock.holds b r a n
 
 holds-slot : (e a n : ℕ) (write : Bool) (b b' : ℕ) (s : Stand) → isAfter s ≡ true → b ≡ b' → Holds b (slotAt e a n write b' s)
 holds-slot e a n write b b' rests h q = absurd (not-both-ways h refl)
@@ -119,22 +120,22 @@ module _ (e : ℕ) (L : Levels e) (M : ℕ) where
   -- One step of an access is one turn of its slot.
   turn-of : (a n : ℕ) (c : ℕ → Slot) (x : ℕ) (held : Bool) (s s' : Access (L .At)) (st : Stand) → L .stand (s .write) (s .at) ≡ st → st ≢ rests
       → (m : Move (L .At)) → Fits (L .stand (s .write)) (later e (s .write)) held st m → Left s m s'
-      → (st ≡ before 0 → held ≡ true → (h : ℕ) × (h < suc M) × (h ≢ x) × Holds (s .lock) (c h)) → (st ≡ before 0 → held ≡ false → Free M (s .lock) c)
+      → (st ≡ before 0 → held ≡ true → (h : ℕ) × (h < suc M) × (h ≢ x) × Holds (s .lock) (c h)) → (st ≡ before 0 → held ≡ false → Free M (2 * e) (s .lock) c)
       → Turn M (2 * e) c x (slotAt e a n (s .write) (s .lock) st) (slotOf (suc a) n s')
   turn-of a n c x held s s' rests v ne m fit l f f' = absurd (ne refl)
   turn-of a n c x held s s' (before zero) v ne waits fit l f f' =
-      let h = f refl fit in rw (l, v) (stay (s .lock) (later e (s .write)) a n (h .0) (h .1) (h .2) (h .3))
+      let h = f refl fit in rw (l, v) (waited (s .lock) (later e (s .write)) a n (h .0) (h .1) (h .2) (h .3))
   turn-of a n c x held s s' (before (suc k)) v ne waits fit l f f' = absurd fit
   turn-of a n c x held s s' (after r) v ne waits fit l f f' = absurd fit
   turn-of a n c x held s s' (before zero) v ne (to at) fit l f f' =
       let m = later-le e (s .write) in
       let q = fit .3 in
-      rw (l, fit .2) (take (s .lock) (later e (s .write)) a n (fit .1) (f' refl (fit .0)) q (omega arith))
-  turn-of a n c x held s s' (before (suc k)) v ne (to at) fit l f f' = rw (l, fit) (come (s .lock) k (later e (s .write)) a n)
+      rw (l, fit .2) (took (s .lock) (later e (s .write)) a n (fit .1) (f' refl (fit .0)) q (omega arith))
+  turn-of a n c x held s s' (before (suc k)) v ne (to at) fit l f f' = rw (l, fit) (nearer (s .lock) k (later e (s .write)) a n)
   turn-of a n c x held s s' (after zero) v ne (to at) fit l f f' = absurd fit
-  turn-of a n c x held s s' (after (suc r)) v ne (to at) fit l f f' = rw (l, fit .1) (go (s .lock) r (fit .0) a n (fit .2))
-  turn-of a n c x held s s' (before k) v ne ends fit l f f' = rw l (answer (s .lock) k (later e (s .write)) a n)
-  turn-of a n c x held s s' (after r) v ne ends fit l f f' = rw l (leave (s .lock) r a n)
+  turn-of a n c x held s s' (after (suc r)) v ne (to at) fit l f f' = rw (l, fit .1) (went-on (s .lock) r (fit .0) a n (fit .2))
+  turn-of a n c x held s s' (before k) v ne ends fit l f f' = rw l (ended (s .lock) k (later e (s .write)) a n)
+  turn-of a n c x held s s' (after r) v ne ends fit l f f' = rw l (let-go (s .lock) r a n)
 
   module _ (O : Order (suc M)) where
     -- the circle's places as slots; s, given and due are by the tracker's number
@@ -167,7 +168,7 @@ module _ (e : ℕ) (L : Levels e) (M : ℕ) where
     Others x s s' given given' due due' = (y : ℕ) → y ≢ x → (s' y ≡ s y) × (given' y ≡ given y) × (due' y ≡ due y)
 
     but : (s s' : ℕ → Access (L .At)) (given given' due due' : ℕ → ℕ) (q : ℕ) → q < suc M → Others (O .tracker q) s s' given given' due due'
-        → But M q (slots s given due) (slots s' given' due')
+        → But M (2 * e) q (slots s given due) (slots s' given' due')
     but s s' given given' due due' q hq same i hi ne =
         let r = same (O .tracker i) (λ eq. ne (order-inj (suc M) O i q hi hq eq)) in rw (r .0, r .1, r .2) refl
 
@@ -213,7 +214,7 @@ module _ (e : ℕ) (L : Levels e) (M : ℕ) where
               rw (O .back (r .0) (r .1)) (has-holds (given (r .0)) (due (r .0)) (s x .lock) (s (r .0)) (r .3)),
             )
 
-        free : L .stand (s x .write) (s x .at) ≡ before 0 → held ≡ false → Free M (s x .lock) (slots s given due)
+        free : L .stand (s x .write) (s x .at) ≡ before 0 → held ≡ false → Free M (2 * e) (s x .lock) (slots s given due)
         free z h i hi k = at (ℕ-discrete (O .tracker i) x)
           where
             k' : Has (s (O .tracker i)) (s x .lock)
@@ -226,7 +227,7 @@ module _ (e : ℕ) (L : Levels e) (M : ℕ) where
     -- A tracker at rest is passed over.
     pub promises-over : (s : ℕ → Access (L .At)) (given due : ℕ → ℕ) (p : ℕ) → Promises s given due p
         → L .stand (s (O .tracker p) .write) (s (O .tracker p) .at) ≡ rests → Promises s given due (next (suc M) p)
-    promises-over s given due p K free = inv-turn M (2 * e) (slots s given due) (slots s given due) p K (rw free pass) (λ i hi ne. refl)
+    promises-over s given due p K free = inv-turn M (2 * e) (slots s given due) (slots s given due) p K (rw free passed) (λ i hi ne. refl)
 
     -- THE BOUND: a busy tracker was given fewer turns than it was promised.
     pub promises-within : (s : ℕ → Access (L .At)) (given due : ℕ → ℕ) (p : ℕ) → Promises s given due p → (x : ℕ) → x < suc M

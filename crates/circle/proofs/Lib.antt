@@ -4,10 +4,12 @@ pub mod Bound
 pub mod Levels
 pub mod TwoLevels
 pub mod ByTable
-pub mod Becomes
 pub mod Ready
 pub mod Calls
 pub mod Link
+pub mod Becomes
 pub mod LongestWait
-pub mod Reached
 pub mod Count
+pub mod Begins
+pub mod ToCode
+pub mod Reached

@@ -1,17 +1,19 @@
 -- The link from the rules to the table: in a ready state a busy tracker's step moves it as the table says, `held` being that another tracker holds its map block, and leaves the other trackers.
 use mathlib.Core.Path.{_≡_, refl, sym, ap, _∙_, subst}
-use mathlib.Core.Logic.{_≢_}
+use mathlib.Core.Logic.{_≢_, _⊎_, inl, inr}
 use mathlib.Core.Bool.{Bool, true, false}
 use Prim.Native.Nat.{ℕ, suc, _<_, min}
 use native.Mathlib.Omega.{arith}
+use native.Mathlib.Decide.{ℕ-discrete}
 use lib.ListN.{length, set}
 use lib.Seq.{getD-set-same, getD-set-other}
-use Rattle.laws.proofs.Choice.{not-both-ways}
+use Rattle.laws.proofs.Choice.{not-both-ways, true-or-false}
 use Rattle.tracker.specs.declared.Phase.{Phase}
-use Rattle.tracker.specs.declared.Phase.the-variants.{Map}
+use Rattle.tracker.specs.declared.Phase.the-variants.{Idle, Probe, Map, Leaf, Set, Clear}
 use Rattle.tracker.specs.declared.Tracker.{Tracker}
 use Rattle.tracker.specs.Tracker.{idle, isIdle, tick}
-use Rattle.tracker.specs.Answer.{Said, ok, wait, moved, read, done, same, no}
+use Rattle.tracker.specs.Answer.{Said, ok, wait, moved, read, done, same}
+use Rattle.tracker.specs.Answer as Answer
 use Rattle.rules.specs.Whole.{mapBlock}
 use Rattle.rules.specs.Step.{Turned, turnOf}
 use Rattle.rules.specs.Calls.{Out, stepped}
@@ -40,6 +42,15 @@ anew k k' x t s h n c e = record {
   other = λ y ne. rw e (getD-set-other (k .state .trackers) x y t idle ne);
 }
 
+-- what holds of each tracker: by the one made anew and the others
+pub each : (P : ℕ → Tracker → Type 0) (k k' : Kept) (x : ℕ) (t : Tracker) → Anew k k' x t → P x t → ((y : ℕ) → y ≢ x → P y (trackerIn k y)) → (y : ℕ) → P y (trackerIn k' y)
+each P k k' x t a own others y = at (ℕ-discrete y x)
+  where
+    at : Dec (y ≡ x) → P y (trackerIn k' y)
+    at (yes q) = rw (q, a .own) own
+    at (no ne) = rw (a .other y ne) (others y ne)
+
+-- the step of tracker x as a move of the table: what decided it, the tracker that it leaves, and at Map that `held` says another tracker holds the map block
 pub record Stepped (k : Kept) (x : ℕ) : Type 0 where
   pub held : Bool
   pub quit : Bool
@@ -94,7 +105,7 @@ one-ending moved m n p q = absurd p
 one-ending (read v k) m n p q = sym p ∙ q
 one-ending (done k) m n p q = sym p ∙ q
 one-ending (same k) m n p q = sym p ∙ q
-one-ending (no c) m n p q = absurd p
+one-ending (Answer.no c) m n p q = absurd p
 
 ending-says : (t t' : Tracker) (m : Move Phase) (said : Said) (c : ℕ) → Moved t m said t' → Ending said c → c ≡ tick (t .turns)
 ending-says t t' waits said c h e = absurd (subst (λ (a : Said). Ending a c) (h .0) e)
@@ -109,3 +120,39 @@ pub ending-counts : (k : Kept) (x said a : ℕ) (r : Stepped k x) → Ending (do
 ending-counts k x said a r e q =
     ending-says (trackerIn k x) (r .left) (rule (r .held) (r .quit) (r .empty) (trackerIn k x .write) (trackerIn k x .phase)) (does k (steps x) .said) said (r .by-rule) e
     ∙ tick-min (trackerIn k x .turns) a q
+
+-- A wait comes exactly from Map under another's hold.
+rule-waits : (held quit empty write : Bool) (p : Phase) → rule held quit empty write p ≡ waits → (p ≡ Map) × (held ≡ true)
+rule-waits held quit empty write Idle e = absurd (let z : _≡_ {A = ℕ} 0 1 = cc in omega arith)
+rule-waits held true empty write Probe e = absurd (let z : _≡_ {A = ℕ} 0 1 = cc in omega arith)
+rule-waits held false empty write Probe e = absurd (let z : _≡_ {A = ℕ} 0 1 = cc in omega arith)
+rule-waits true quit empty write Map e = (refl, refl)
+rule-waits false true empty write Map e = absurd (let z : _≡_ {A = ℕ} 0 1 = cc in omega arith)
+rule-waits false false empty write Map e = absurd (let z : _≡_ {A = ℕ} 0 1 = cc in omega arith)
+rule-waits held quit empty false Leaf e = absurd (let z : _≡_ {A = ℕ} 0 1 = cc in omega arith)
+rule-waits held true empty true Leaf e = absurd (let z : _≡_ {A = ℕ} 0 1 = cc in omega arith)
+rule-waits held false empty true Leaf e = absurd (let z : _≡_ {A = ℕ} 0 1 = cc in omega arith)
+rule-waits held quit empty write Set e = absurd (let z : _≡_ {A = ℕ} 0 1 = cc in omega arith)
+rule-waits held quit empty write Clear e = absurd (let z : _≡_ {A = ℕ} 0 1 = cc in omega arith)
+
+said-waits : (t t' : Tracker) (m : Move Phase) (said : Said) → Moved t m said t' → said ≡ wait → m ≡ waits
+said-waits t t' waits said h e = refl
+said-waits t t' (to p) said h e = absurd (let q : moved ≡ wait = sym (h .0) ∙ e in let z : _≡_ {A = ℕ} 0 1 = cc in omega arith)
+said-waits t t' ends said h e = absurd (subst (λ (a : Said). Ending a (tick (t .turns))) e (h .0))
+
+module _ (k : Kept) (s : Ready k) (x : ℕ) (h : x < k .state .t) (b : isIdle (trackerIn k x) ≡ false) where
+  pub wait-held : does k (steps x) .said ≡ wait → (trackerIn k x .phase ≡ Map) × Another (k .state) x (mapBlock (k .state .n) (trackerIn k x .group))
+  wait-held e =
+      let r = by-table k s x h b in
+      let q = rule-waits (r .held) (r .quit) (r .empty) (trackerIn k x .write) (trackerIn k x .phase) (said-waits (trackerIn k x) (r .left) _ (does k (steps x) .said) (r .by-rule) e) in
+      (q .0, r .held-is (q .0) (q .1))
+
+  pub held-waits : trackerIn k x .phase ≡ Map → Another (k .state) x (mapBlock (k .state .n) (trackerIn k x .group)) → does k (steps x) .said ≡ wait
+  held-waits at-map a = at (true-or-false (r .held))
+    where
+      r : Stepped k x
+      r = by-table k s x h b
+
+      at : (r .held ≡ true) ⊎ (r .held ≡ false) → does k (steps x) .said ≡ wait
+      at (inl e) = (rw (e, at-map) at (r .by-rule)) .0
+      at (inr e) = absurd (r .free-is at-map e a)

@@ -5,7 +5,6 @@ use mathlib.Core.Bool.{Bool, true, false}
 use mathlib.Core.List.{List}
 use Prim.Native.Nat.{ℕ, zero, suc, _<_, _≤_, min}
 use native.Mathlib.Omega.{arith}
-use native.Mathlib.Decide.{ℕ-discrete}
 use borrow.Author.Tests.{eqb-true, eq-eqb}
 use Rattle.laws.proofs.Choice.{not-both-ways, both-left, both-right, both-true}
 use Rattle.tracker.specs.declared.Phase.{Phase}
@@ -22,7 +21,7 @@ use Rattle.circle.specs.Order.{next, Order}
 use Rattle.circle.specs.Table.{Move, waits, to, ends, rule}
 use Rattle.circle.specs.LastTurn.{bound, lastTurn}
 use Rattle.circle.specs.Ending.{Ending}
-use Rattle.circle.specs.Circle.{trackerIn, becomes, Circle, begins, turns, passes, issued, drained, refused}
+use Rattle.circle.specs.Circle.{trackerIn, becomes, Circle, begins, turned, passed, issued, drained, refused}
 use Rattle.circle.specs.LongestWait.{InTime, LongestWait}
 use Rattle.circle.proofs.Levels.{rests, before, Access, promises-begin, promises-issue, promises-turn, promises-over, promises-within, dueNow}
 use Rattle.circle.proofs.Levels as Levels
@@ -31,7 +30,7 @@ use Rattle.circle.proofs.ByTable.{Moved}
 use Rattle.circle.proofs.Ready.{Ready, issue-keeps, step-keeps, drain-keeps, never-refused}
 use Rattle.circle.proofs.Calls.{Outcome, outcome, ok-not-no, refused-same}
 use Rattle.circle.proofs.Calls as Calls
-use Rattle.circle.proofs.Link.{Anew, anew, Stepped, by-table, still-busy, tick-min, ending-counts}
+use Rattle.circle.proofs.Link.{Anew, anew, each, Stepped, by-table, still-busy, tick-min, ending-counts}
 use Rattle.circle.proofs.Becomes.{becomes-same, becomes-other}
 
 -- a tracker as the levels see it
@@ -81,15 +80,22 @@ left-of n t t' waits said h = ap (accessOf n) (h .1)
 left-of n t t' (to p) said h = ap (accessOf n) (h .1)
 left-of n t t' ends said h = rw (h .1) refl
 
+-- what is known of a busy access that was issued under the circle: the turn it is promised, and its count of the turns given
+record Known (M : ℕ) (t : Tracker) (due given : ℕ) : Type 0 where
+  last : due ≡ bound 2 (suc M) (t .write) (t .bottom)
+  counts : t .turns ≡ min given 65535
+
 module _ (M : ℕ) (o : Order (suc M)) where
-  -- every promise of a state under the circle
+  abbrev KnownAt : (under : ℕ → Bool) (due given : ℕ → ℕ) → ℕ → Tracker → Type 0
+  KnownAt under due given x t = x < suc M → under x ≡ true → isIdle t ≡ false → Known M t (due x) (given x)
+
+  -- what the circle keeps
   record Keeps (k : Kept) (i : ℕ) (given : ℕ → ℕ) (under : ℕ → Bool) : Type 0 where
     ready : Ready k
     count : k .state .t ≡ suc M
     due : ℕ → ℕ
     promises : Levels.Promises 1 twoLevels M o (accesses k) given due i
-    promised : (x : ℕ) → x < suc M → under x ≡ true → isIdle (trackerIn k x) ≡ false → due x ≡ bound 2 (suc M) (trackerIn k x .write) (trackerIn k x .bottom)
-    counted : (x : ℕ) → x < suc M → under x ≡ true → isIdle (trackerIn k x) ≡ false → trackerIn k x .turns ≡ min (given x) 65535
+    known : (x : ℕ) → KnownAt under due given x (trackerIn k x)
 
   keeps-begin : (k : Kept) (i : ℕ) (given : ℕ → ℕ) → k .state .t ≡ suc M → Ready k → i < suc M → Keeps k i given (λ x. false)
   keeps-begin k i given c s h = record {
@@ -97,8 +103,7 @@ module _ (M : ℕ) (o : Order (suc M)) where
     count = c;
     due = dueNow 1 twoLevels M o (accesses k) given;
     promises = promises-begin 1 twoLevels M o (accesses k) given i h;
-    promised = λ x hx u b. absurd (not-both-ways u refl);
-    counted = λ x hx u b. absurd (not-both-ways u refl);
+    known = λ x h u b. absurd (not-both-ways u refl);
   }
 
   module _ (k : Kept) (i : ℕ) (given : ℕ → ℕ) (under : ℕ → Bool) (K : Keeps k i given under) where
@@ -111,8 +116,7 @@ module _ (M : ℕ) (o : Order (suc M)) where
       count = K .count;
       due = K .due;
       promises = promises-over 1 twoLevels M o (accesses k) given (K .due) i (K .promises) (idle-rests (trackerIn k (o .tracker i) .write) (trackerIn k (o .tracker i) .phase) e);
-      promised = K .promised;
-      counted = K .counted;
+      known = K .known;
     }
 
     issue-at : (o' : Out) (x : ℕ) (write bottom : Bool) (g v : ℕ) → Outcome k (issues x write bottom g v) o' → o' .said ≡ ok
@@ -132,8 +136,9 @@ module _ (M : ℕ) (o : Order (suc M)) where
           promises-issue 1 twoLevels M o (accesses k) (accesses k') given (becomes given x 0) (K .due) due' i x (mapBlock (k .state .n) g) write bottom (K .promises) hx
           (idle-rests (trackerIn k x .write) (trackerIn k x .phase) (r .1)) (rw (a .leaves, a .own) refl) (becomes-same given x 0) (becomes-same (K .due) x last)
           (λ y ne. (rw (a .leaves, a .other y ne) refl, becomes-other given x y 0 ne, becomes-other (K .due) x y last ne));
-      promised = λ y hy u b. promised' y hy u b (ℕ-discrete y x);
-      counted = λ y hy u b. counted' y hy u b (ℕ-discrete y x);
+      known = each (KnownAt (becomes under x true) due' (becomes given x 0)) k k' x (Tracker.issued write bottom g v) a
+          (λ h u b. record { last = becomes-same (K .due) x last; counts = rw (becomes-same given x 0) (omega arith) })
+          (λ y ne h u b. rw (becomes-other (K .due) x y last ne, becomes-other given x y 0 ne) (K .known y h (sym (becomes-other under x y true ne) ∙ u) b));
     }
       where
         k' : Kept
@@ -154,18 +159,6 @@ module _ (M : ℕ) (o : Order (suc M)) where
         due' : ℕ → ℕ
         due' = becomes (K .due) x last
 
-        promised' : (y : ℕ) → y < suc M → becomes under x true y ≡ true → isIdle (trackerIn k' y) ≡ false → Dec (y ≡ x)
-            → due' y ≡ bound 2 (suc M) (trackerIn k' y .write) (trackerIn k' y .bottom)
-        promised' y hy u b (yes q) = rw (q, a .own) (becomes-same (K .due) x last)
-        promised' y hy u b (no ne) = rw (a .other y ne, becomes-other (K .due) x y last ne)
-            (K .promised y hy (sym (becomes-other under x y true ne) ∙ u) (sym (ap isIdle (a .other y ne)) ∙ b))
-
-        counted' : (y : ℕ) → y < suc M → becomes under x true y ≡ true → isIdle (trackerIn k' y) ≡ false → Dec (y ≡ x)
-            → trackerIn k' y .turns ≡ min (becomes given x 0 y) 65535
-        counted' y hy u b (yes q) = rw (q, a .own, becomes-same given x 0) (omega arith)
-        counted' y hy u b (no ne) = rw (a .other y ne, becomes-other given x y 0 ne)
-            (K .counted y hy (sym (becomes-other under x y true ne) ∙ u) (sym (ap isIdle (a .other y ne)) ∙ b))
-
     keeps-turn : isIdle (trackerIn k (o .tracker i)) ≡ false
         → Keeps (kept (does k (steps (o .tracker i)))) (next (suc M) i) (becomes given (o .tracker i) (suc (given (o .tracker i)))) under
     keeps-turn busy = record {
@@ -178,8 +171,8 @@ module _ (M : ℕ) (o : Order (suc M)) where
           (rw (a .leaves, a .own) (left-of (k .state .n) t (r .left) m (does k (steps x) .said) (r .by-rule)))
           holder free (becomes-same given x (suc (given x)))
           (λ y ne. (rw (a .leaves, a .other y ne) refl, becomes-other given x y (suc (given x)) ne, refl));
-      promised = λ y hy u b. promised' y hy u b (ℕ-discrete y x);
-      counted = λ y hy u b. counted' y hy u b (ℕ-discrete y x);
+      known = each (KnownAt under (K .due) given') k k' x (r .left) a own
+          (λ y ne h u b. rw (becomes-other given x y (suc (given x)) ne) (K .known y h u b));
     }
       where
         x : ℕ
@@ -219,18 +212,14 @@ module _ (M : ℕ) (o : Order (suc M)) where
             r .free-is (asks-map (t .write) (t .phase) z) h
             (record { who = y; who-lt = below y hy; not-x = ne; holds-it = has-holds (k .state .n) (trackerIn k y) (mapBlock (k .state .n) (t .group)) q })
 
-        promised' : (y : ℕ) → y < suc M → under y ≡ true → isIdle (trackerIn k' y) ≡ false → Dec (y ≡ x)
-            → K .due y ≡ bound 2 (suc M) (trackerIn k' y .write) (trackerIn k' y .bottom)
-        promised' y hy u b (yes q) =
-            let s = still-busy t (r .left) m (does k (steps x) .said) (r .by-rule) (sym (ap isIdle (a .own)) ∙ subst (λ (z : ℕ). isIdle (trackerIn k' z) ≡ false) q b) in
-            rw (q, a .own, s .write, s .bottom) (K .promised x hx (subst (λ (z : ℕ). under z ≡ true) q u) busy)
-        promised' y hy u b (no ne) = rw (a .other y ne) (K .promised y hy u (sym (ap isIdle (a .other y ne)) ∙ b))
-
-        counted' : (y : ℕ) → y < suc M → under y ≡ true → isIdle (trackerIn k' y) ≡ false → Dec (y ≡ x) → trackerIn k' y .turns ≡ min (given' y) 65535
-        counted' y hy u b (yes q) =
-            let s = still-busy t (r .left) m (does k (steps x) .said) (r .by-rule) (sym (ap isIdle (a .own)) ∙ subst (λ (z : ℕ). isIdle (trackerIn k' z) ≡ false) q b) in
-            rw (q, a .own, s .turns, becomes-same given x (suc (given x))) (tick-min (t .turns) (given x) (K .counted x hx (subst (λ (z : ℕ). under z ≡ true) q u) busy))
-        counted' y hy u b (no ne) = rw (a .other y ne, becomes-other given x y (suc (given x)) ne) (K .counted y hy u (sym (ap isIdle (a .other y ne)) ∙ b))
+        own : KnownAt under (K .due) given' x (r .left)
+        own h u b =
+            let s = still-busy t (r .left) m (does k (steps x) .said) (r .by-rule) b in
+            let q = K .known x h u busy in
+            record {
+              last = rw (s .write, s .bottom) (q .last);
+              counts = rw (becomes-same given x (suc (given x))) (s .turns ∙ tick-min (t .turns) (given x) (q .counts));
+            }
 
     -- the same trackers
     keeps-same : (k' : Kept) → Ready k' → k' .state .n ≡ k .state .n → k' .state .t ≡ k .state .t → k' .state .trackers ≡ k .state .trackers → Keeps k' i given under
@@ -239,8 +228,7 @@ module _ (M : ℕ) (o : Order (suc M)) where
       count = c ∙ K .count;
       due = K .due;
       promises = subst (λ (s : ℕ → Access Phase). Levels.Promises 1 twoLevels M o s given (K .due) i) same (K .promises);
-      promised = λ y hy u b. rw e (K .promised y hy u (rw e at b));
-      counted = λ y hy u b. rw e (K .counted y hy u (rw e at b));
+      known = rw e (K .known);
     }
       where
         same : accesses k ≡ accesses k'
@@ -255,8 +243,8 @@ module _ (M : ℕ) (o : Order (suc M)) where
 
   keeps : {k : Kept} {i : ℕ} {given : ℕ → ℕ} {under : ℕ → Bool} → Circle (suc M) o k i given under → Keeps k i given under
   keeps (begins k i given c w l h) = keeps-begin k i given c (w, l) h
-  keeps (turns {k = k} {i = i} {given = given} {under = under} r b) = keeps-turn k i given under (keeps r) b
-  keeps (passes {k = k} {i = i} {given = given} {under = under} r b) = keeps-over k i given under (keeps r) b
+  keeps (turned {k = k} {i = i} {given = given} {under = under} r b) = keeps-turn k i given under (keeps r) b
+  keeps (passed {k = k} {i = i} {given = given} {under = under} r b) = keeps-over k i given under (keeps r) b
   keeps (issued {k = k} {i = i} {given = given} {under = under} r x write bottom g v e) = keeps-issue k i given under (keeps r) x write bottom g v e
   keeps (drained {k = k} {i = i} {given = given} {under = under} r e) = let K = keeps r in drain-at k i given under K (does k drains) (outcome k (K .ready) drains) e (drain-keeps k (K .ready))
   keeps (refused {k = k} {i = i} {given = given} {under = under} r c n e) =
@@ -272,14 +260,14 @@ module _ (M : ℕ) (o : Order (suc M)) where
       within : (x : ℕ) → x < suc M → under x ≡ true → isIdle (trackerIn k x) ≡ false → given x < lastTurn (suc M) (trackerIn k x .write) (trackerIn k x .bottom)
       within x h u b =
           let l : given x < K .due x = promises-within 1 twoLevels M o (accesses k) given (K .due) i (K .promises) x h (busy-stands (trackerIn k x .write) (trackerIn k x .phase) b) in
-          let p = K .promised x h u b in
+          let p = K .known x h u b .last in
           let q = lastTurn-is M (trackerIn k x .write) (trackerIn k x .bottom) in
           omega arith
 
       ending-at : (o' : Out) (x said : ℕ) → Outcome k (steps x) o' → x < suc M → under x ≡ true → Ending (does k (steps x) .said) said → o' .said ≡ does k (steps x) .said
           → (said ≡ min (suc (given x)) 65535) × (suc (given x) ≤ lastTurn (suc M) (trackerIn k x .write) (trackerIn k x .bottom))
       ending-at o' x said (Calls.refused r q z) h u e same = absurd (subst (λ (a : Said). Ending a said) (sym same ∙ q) e)
-      ending-at o' x said (Calls.stepped x' p b) h u e same = (ending-counts k x said (given x) (by-table k (K .ready) x p b) e (K .counted x h u b), within x h u b)
+      ending-at o' x said (Calls.stepped x' p b) h u e same = (ending-counts k x said (given x) (by-table k (K .ready) x p b) e (K .known x h u b .counts), within x h u b)
 
 -- DEMAND 3
 pub longest-wait : LongestWait

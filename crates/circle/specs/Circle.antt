@@ -1,4 +1,4 @@
--- Demand 3: what it is for turns to go round the trackers in a circle.
+-- Demand 3's runs: turns go round the trackers in a circle.
 use mathlib.Core.Path.{_≡_}
 use mathlib.Core.Bool.{Bool, true, false}
 use Prim.Native.Nat.{ℕ, suc, _<_}
@@ -20,17 +20,17 @@ trackerIn k x = trackerAt (k .state .trackers) x
 abbrev pub becomes : {A : Type 0} → (ℕ → A) → ℕ → A → ℕ → A
 becomes f x a y = pick (eqb y x) a (f y)
 
--- A run under the circle: what is passed on from call to call; the place whose tracker has the next turn; and two things kept beside:
+-- A run under the circle: what is passed on from call to call, the place whose tracker has the next turn, and two marks kept beside:
 -- `given x`, the turns that the access at tracker x was given since its issue, and `under x`, whether it was issued under this circle.
 pub data Circle (t : ℕ) (o : Order t) : Kept → ℕ → (given : ℕ → ℕ) → (under : ℕ → Bool) → Type 0 where
   -- It may begin in any whole state of T trackers with lengths that are right, at any place. Accesses may be under way; none of them is under this circle.
   begins : (k : Kept) (i : ℕ) (given : ℕ → ℕ) → k .state .t ≡ t → whole (k .state) ≡ true
       → lengthsRight (k .state .n) (k .state .l) (k .bytes) (k .memory) ≡ true → i < t → Circle t o k i given (λ x. false)
   -- The tracker at the place is busy: it is given a turn, and the next place comes.
-  turns : {k : Kept} {i : ℕ} {given : ℕ → ℕ} {under : ℕ → Bool} → Circle t o k i given under → isIdle (trackerIn k (o .tracker i)) ≡ false
+  turned : {k : Kept} {i : ℕ} {given : ℕ → ℕ} {under : ℕ → Bool} → Circle t o k i given under → isIdle (trackerIn k (o .tracker i)) ≡ false
       → Circle t o (kept (does k (steps (o .tracker i)))) (next t i) (becomes given (o .tracker i) (suc (given (o .tracker i)))) under
   -- It is idle: it is passed over.
-  passes : {k : Kept} {i : ℕ} {given : ℕ → ℕ} {under : ℕ → Bool} → Circle t o k i given under → isIdle (trackerIn k (o .tracker i)) ≡ true
+  passed : {k : Kept} {i : ℕ} {given : ℕ → ℕ} {under : ℕ → Bool} → Circle t o k i given under → isIdle (trackerIn k (o .tracker i)) ≡ true
       → Circle t o k (next t i) given under
   -- Between turns, any number of times: an access is issued, which has been given no turn,
   issued : {k : Kept} {i : ℕ} {given : ℕ → ℕ} {under : ℕ → Bool} → Circle t o k i given under → (x : ℕ) (write bottom : Bool) (g v : ℕ)

@@ -1,8 +1,8 @@
 pub mod Order
-pub mod Table
-pub mod LastTurn
-pub mod Ending
 pub mod Circle
+pub mod Ending
+pub mod LastTurn
 pub mod LongestWait
-pub mod Reached
 pub mod Count
+pub mod Reached
+pub mod Table

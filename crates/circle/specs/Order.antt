@@ -1,4 +1,4 @@
--- The circle's places: "turns go round" a fixed order of the T trackers.
+-- The places of the circle, and any fixed order of the T trackers at them.
 use mathlib.Core.Path.{_≡_}
 use Prim.Native.Nat.{ℕ, _+_, _<_}
 use lib.Dec.{ltb}
@@ -8,7 +8,7 @@ use Rattle.laws.specs.Choice.{pick}
 unfoldable pub next : ℕ → ℕ → ℕ
 next t i = pick (ltb (i + 1) t) (i + 1) 0
 
--- Any fixed order of the T trackers: which tracker stands at a place, and at which place a tracker stands.
+-- which tracker stands at a place, and at which place a tracker stands: each is the other turned round
 pub record Order (t : ℕ) : Type 0 where
   pub tracker : ℕ → ℕ
   pub place : ℕ → ℕ

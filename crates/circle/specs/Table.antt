@@ -11,6 +11,7 @@ pub data Move (At : Type 0) : Type 0 where
   ends : Move At
 
 -- `held`: another tracker holds this map block. `quit`: what the lines and the memory have ends the access at this step. `empty`: a write left its leaf all zero.
+--   Idle: it has no step (refusal 8), and this line has no use.
 --   Probe: ends, or "on to Map".
 --   Map: "If another tracker holds this map block: wait", else ends, or "on to Leaf".
 --   Leaf: a read ends; a write ends, or goes on to Finish, which clears or sets the bit.

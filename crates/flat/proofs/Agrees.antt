@@ -2,23 +2,22 @@
 use mathlib.Core.Path.{_≡_, refl, sym, ap, _∙_, subst}
 use mathlib.Core.Bool.{Bool, true, false}
 use mathlib.Core.List.{List}
-use mathlib.Core.Logic.{_⊎_, inl, inr, ⊎-elim}
-use Prim.Native.Nat.{ℕ, suc, _+_, _-_, _*_, _/_, _%_, _<_, _≤_}
+use mathlib.Core.Logic.{_⊎_, inl, inr}
+use Prim.Native.Nat.{ℕ, _+_, _*_, _<_, _≤_}
 use native.Mathlib.Omega.{arith}
 use native.Mathlib.Decide.{ℕ-discrete}
-use lib.Dec.{eqb}
-use borrow.Author.Tests.{eq-eqb, ne-eqb}
-use lib.ListN.{length, getD, set}
+use borrow.Author.Tests.{ne-eqb}
+use lib.ListN.{length, set}
 use lib.Seq.{getD-set-same, getD-set-other}
 use Rattle.laws.specs.Choice.{pick}
-use Rattle.laws.proofs.Choice.{not-both-ways, true-or-false}
+use Rattle.laws.proofs.Choice.{not-both-ways}
 use Rattle.geometry.specs.TagMemory.{leafOf, byteOf, mapBlockOf, mapByteOf, mapBitOf, mapBlocks, blocks}
 use Rattle.block.specs.Block.{groupAt, bitAt, putBit}
 use Rattle.block.proofs.BitsOf.{bitAt-putBit-same, bitAt-putBit-bit, bitAt-putBit-byte}
 use Rattle.tracker.specs.declared.Phase.{Phase}
 use Rattle.tracker.specs.declared.Phase.the-variants.{Idle, Probe, Map, Leaf, Set, Clear}
 use Rattle.tracker.specs.declared.Tracker.{Tracker}
-use Rattle.tracker.specs.Tracker.{idle, holdsAt}
+use Rattle.tracker.specs.Tracker.{idle, isIdleAt, holdsAt}
 use Rattle.rules.specs.State.{Rows, trackerAt}
 use Rattle.rules.specs.Whole.{mapBlock}
 use Rattle.rules.proofs.Lined.{Has}
@@ -64,13 +63,21 @@ pub record Agrees (n l : ℕ) (r : Rows) (ts : List Tracker) (row : Row) : Type 
   pub fits : (x : ℕ) → Fits row (trackerAt ts x) (trackerAt ts x .phase)
   pub small : (x : ℕ) → trackerAt ts x .value < 4294967296
 
-finish-holds : (p : Phase) → atFinish p ≡ true → holdsAt p ≡ true
+pub finish-holds : (p : Phase) → atFinish p ≡ true → holdsAt p ≡ true
 finish-holds Idle e = absurd (not-both-ways e refl)
 finish-holds Probe e = absurd (not-both-ways e refl)
 finish-holds Map e = absurd (not-both-ways e refl)
 finish-holds Leaf e = refl
 finish-holds Set e = refl
 finish-holds Clear e = refl
+
+pub finish-busy : (p : Phase) → isIdleAt p ≡ true → atFinish p ≡ true → ⊥
+finish-busy Idle i f = not-both-ways f refl
+finish-busy Probe i f = not-both-ways f refl
+finish-busy Map i f = not-both-ways f refl
+finish-busy Leaf i f = not-both-ways f refl
+finish-busy Set i f = not-both-ways i refl
+finish-busy Clear i f = not-both-ways i refl
 
 -- a tracker that holds nothing, or another leaf's map block, does not mind what becomes of a leaf
 fits-other : (row row' : Row) (u : Tracker) (p : Phase) → (holdsAt p ≡ true → tagged row' (leafOf (u .group)) ≡ tagged row (leafOf (u .group))) → Fits row u p → Fits row' u p

@@ -1,19 +1,19 @@
 -- What each block holds now: its line's bytes if a line has it, else memory's. One change of one line, and what it does to every block.
-use mathlib.Core.Path.{_≡_, refl, sym, ap, _∙_, subst}
-use mathlib.Core.Bool.{Bool, true, false}
+use mathlib.Core.Path.{_≡_, sym, ap, _∙_}
+use mathlib.Core.Bool.{true, false}
 use mathlib.Core.List.{List}
 use mathlib.Core.Logic.{_⊎_, inl, inr, ⊎-elim}
-use Prim.Native.Nat.{ℕ, suc, _+_, _-_, _*_, _<_, _≤_}
+use Prim.Native.Nat.{ℕ, _*_, _<_, _≤_}
 use native.Mathlib.Omega.{arith}
 use native.Mathlib.Decide.{ℕ-discrete}
 use lib.Dec.{ltb}
 use borrow.Author.Tests.{lt-ltb, le-ltb}
-use lib.ListN.{length, getD, set, length-set}
+use lib.ListN.{length, set, length-set}
 use lib.Seq.{getD-set-same, getD-set-other}
 use Rattle.laws.specs.Choice.{pick}
-use Rattle.laws.proofs.Choice.{not-both-ways, true-or-false}
+use Rattle.laws.proofs.Choice.{true-or-false}
 use Rattle.laws.proofs.Splice.{lt-or-ge}
-use Rattle.laws.proofs.Scan.{first-is, first-same}
+use Rattle.laws.proofs.Scan.{first-is}
 use Rattle.memory.specs.True.{blockAt}
 use Rattle.line.specs.Word.{used, blockOf, changed, has}
 use Rattle.line.specs.Find.{lineOf}

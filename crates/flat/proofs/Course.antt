@@ -1,19 +1,17 @@
 -- The flat row's answers, a law for each course of a step.
 use mathlib.Core.Path.{_≡_, refl, sym, ap, _∙_, fun-ext}
 use mathlib.Core.Bool.{Bool, true, false}
-use mathlib.Core.Logic.{⊎-elim}
-use Prim.Native.Nat.{ℕ, _*_, _/_}
+use Prim.Native.Nat.{ℕ}
 use native.Mathlib.Decide.{ℕ-discrete}
-use lib.Dec.{eqb}
 use borrow.Author.Tests.{eq-eqb, ne-eqb}
-use Rattle.laws.specs.Choice.{pick, both, implies}
+use Rattle.laws.specs.Choice.{both, implies, no as negated}
 use Rattle.laws.proofs.Choice.{both-false-right}
 use Rattle.geometry.specs.TagMemory.{leafOf}
-use Rattle.tracker.specs.declared.Phase.the-variants.{Idle, Probe, Map, Leaf, Set, Clear}
+use Rattle.tracker.specs.declared.Phase.the-variants.{Probe, Map, Leaf, Set, Clear}
 use Rattle.tracker.specs.declared.Tracker.{Tracker}
-use Rattle.tracker.specs.Answer.{Said, read, done, same}
+use Rattle.tracker.specs.Answer.{read, done, same}
 use Rattle.rules.specs.Step.{turnsOf}
-use Rattle.flat.specs.Flat.{Row, put, tagged, after, answer, changesNothing, Course, byTags, course}
+use Rattle.flat.specs.Flat.{Row, put, tagged, after, answer, changesNothing, Course, course}
 use Rattle.flat.proofs.Tags.{tagged-same}
 
 -- what is there put in again
@@ -83,14 +81,14 @@ module _ (row : Row) (found held : Bool) (u : Tracker) where
 
   module _ (h : held ≡ false) where
     pub map-goes-tagged : tagged row (leafOf (u .group)) ≡ true → course row found held u Map ≡ Course.goes Leaf
-    unfolding both Rattle.laws.specs.Choice.no
+    unfolding both negated
     map-goes-tagged e = rw (h, e)
 
     pub map-goes : changesNothing row u ≡ false → course row found held u Map ≡ Course.goes Leaf
-    map-goes c = rw (h, c, both-false-right (Rattle.laws.specs.Choice.no (tagged row (leafOf (u .group)))) false refl)
+    map-goes c = rw (h, c, both-false-right (negated (tagged row (leafOf (u .group)))) false refl)
 
     pub map-ends : tagged row (leafOf (u .group)) ≡ false → changesNothing row u ≡ true → course row found held u Map ≡ Course.ends
-    unfolding both Rattle.laws.specs.Choice.no
+    unfolding both negated
     map-ends e c = rw (h, e, c)
 
   pub leaf-ends : changesNothing row u ≡ true → course row found held u Leaf ≡ Course.ends

@@ -1,35 +1,41 @@
 -- Demand 2, proved: call by call from a fresh or an opened memory.
 use mathlib.Core.Path.{_≡_, refl, sym, ap, _∙_, subst}
-use mathlib.Core.Bool.{Bool, true, false}
+use mathlib.Core.Bool.{true, false}
 use mathlib.Core.List.{List, [], _∷_}
 use mathlib.Core.Logic.{_⊎_, inl, inr, ⊎-elim}
-use Prim.Native.Nat.{ℕ, zero, suc, _*_, _<_, _≤_}
+use Prim.Native.Nat.{ℕ, zero, suc, _+_, _<_}
 use native.Mathlib.Omega.{arith}
-use lib.ListN.{length, getD, replicate}
-use Rattle.laws.proofs.Choice.{not-both-ways, true-or-false, both-left, both-right, no-true}
+use lib.ListN.{getD, replicate}
+use Rattle.laws.specs.Choice.{no as negated}
+use Rattle.laws.proofs.Choice.{not-both-ways, true-or-false, both-left, both-right, both-true, no-true}
 use Rattle.laws.proofs.Splice.{lt-or-ge}
-use Rattle.laws.proofs.Scan.{all-at}
+use Rattle.laws.proofs.Scan.{all-at, all-is}
 use Rattle.geometry.specs.TagMemory.{tagOf}
 use Rattle.memory.specs.PlainReading.{plainGroup}
 use Rattle.memory.specs.True.{isTrue, clearedMap}
 use Rattle.memory.proofs.Clearing.{length-clearedMap, clearedMap-true}
+use Rattle.tracker.specs.declared.Phase.the-variants.{Idle}
 use Rattle.tracker.specs.declared.Tracker.{Tracker}
 use Rattle.tracker.specs.Tracker.{idle, isIdle}
 use Rattle.tracker.specs.Answer.{Said, ok}
 use Rattle.line.specs.Word.{used, changed}
-use Rattle.rules.specs.State.{State, Rows, trackerAt, lengthsRight, begun, zeroState}
+use Rattle.rules.specs.State.{State, trackerAt, lengthsRight, begun, zeroState}
 use Rattle.rules.specs.Whole.{limits}
-use Rattle.rules.specs.Calls.{Out, refused, accepted, fresh, opened, allIdle}
-use Rattle.rules.specs.Run.{Call, Kept, kept, does, answers, ended}
+use Rattle.rules.specs.Calls.{Out, refused, accepted, fresh, opened, allIdle, drain}
+use Rattle.rules.specs.Run.{Call, steps, drains, Kept, kept, does, answers, ended}
 use Rattle.rules.proofs.Words.{used-free}
-use Rattle.rules.proofs.Lined.{at, Has}
-use Rattle.rules.proofs.Whole.{Whole, whole-facts, l-most}
-use Rattle.rules.proofs.Calls.{bytes-right, memory-right, lengths-right}
+use Rattle.rules.proofs.Lined.{at}
+use Rattle.rules.proofs.Whole.{whole-facts, l-most}
+use Rattle.rules.proofs.Keeps.{isNo}
+use Rattle.rules.proofs.Calls.{bytes-right, memory-right, lengths-right, step-not-refused, drain-is, drain-busy}
 use Rattle.rules.proofs.Begun.{begun-whole}
-use Rattle.flat.specs.Flat.{Row, Flat, Given, flatDoes, flatAnswers, flatEnded}
-use Rattle.flat.specs.Demand.{found, given, flatOf, Value32, Values32, atRest, Flatly}
+use Rattle.flat.specs.Flat.{Row, Flat, flatAnswers, flatEnded, effects}
+use Rattle.flat.specs.Moments.{toCome, issuesTo, momentsOf}
+use Rattle.flat.specs.Demand.{given, flatOf, Values32, atRest, Flatly}
+use Rattle.flat.proofs.Drains.{drains as drains-all}
+use Rattle.flat.proofs.Moments.{row-in-order, moments-of, isFour, never-4}
 use Rattle.flat.proofs.Rest.{reads-row, reads-true, begins}
-use Rattle.flat.proofs.Follows.{rowsOf, flatWith, Ok, Follows, follows}
+use Rattle.flat.proofs.Follows.{flatWith, Ok, Follows, follows}
 
 -- a whole run, from any state that agrees with a row
 pub record Runs (k : Kept) (cs : List Call) (row : Row) : Type 0 where
@@ -66,7 +72,7 @@ module _ (k : Kept) (row : Row) (a : Ok k row) (e : atRest k ≡ true) where
 
   clean : (i : ℕ) → i < k .state .l → changed (at (k .state .lines) i) ≡ false
   unfolding atRest
-  clean i q = no-true _ (all-at (λ j. Rattle.laws.specs.Choice.no (changed (getD (k .state .lines) j 0))) (k .state .l) (both-right _ _ e) i q)
+  clean i q = no-true _ (all-at (λ j. negated (changed (getD (k .state .lines) j 0))) (k .state .l) (both-right _ _ e) i q)
 
   pub rest-reads : (g : ℕ) → plainGroup (k .state .n) (k .memory) g ≡ row g
   rest-reads = reads-row (a .agrees) rest clean
@@ -74,19 +80,54 @@ module _ (k : Kept) (row : Row) (a : Ok k row) (e : atRest k ≡ true) where
   pub rest-true : isTrue (k .state .n) (k .memory) ≡ true
   rest-true = reads-true (a .agrees) rest clean
 
--- a run from a state that agrees with what its memory reads
-pub flatly : (k : Kept) (cs : List Call) → Ok k (plainGroup (k .state .n) (k .memory)) → Values32 cs → Flatly k cs
-flatly k cs a q = go (runs cs k (plainGroup (k .state .n) (k .memory)) a q)
+no-ok : {c : ℕ} → _≡_ {A = Said} (Said.no c) ok → ⊥
+no-ok {c} e = let z : _≡_ {A = ℕ} 0 1 = cc in omega arith
+
+-- an accepted drain leaves it at rest
+module _ (k : Kept) (row : Row) (a : Ok k row) where
+  all-clean : (d : State) → d .trackers ≡ k .state .trackers → d .t ≡ k .state .t → allIdle (k .state) ≡ true → ((i : ℕ) → i < d .l → changed (at (d .lines) i) ≡ false) → (b m : List ℕ) → atRest (record { state = d; bytes = b; memory = m }) ≡ true
+  unfolding atRest allIdle negated
+  all-clean d e f i c b m = both-true _ _ (rw (e, f) i) (all-is (λ j. negated (changed (getD (d .lines) j 0))) (d .l) (λ j q. rw (c j q)))
+
+  pub drain-rests : does k drains .said ≡ ok → atRest (kept (does k drains)) ≡ true
+  unfolding does
+  drain-rests s = go (true-or-false (allIdle (k .state)))
+    where
+      go : (allIdle (k .state) ≡ true) ⊎ (allIdle (k .state) ≡ false) → atRest (kept (drain (k .state) (k .bytes) (k .memory))) ≡ true
+      go (inr e) = absurd (no-ok (ap (λ (o : Out). o .said) (sym (drain-busy (k .state) (k .bytes) (k .memory) (a .is-whole) (a .right) e)) ∙ s))
+      go (inl e) = subst (λ (o : Out). atRest (kept o) ≡ true) (sym (drain-is (k .state) (k .bytes) (k .memory) (a .is-whole) (a .right) e))
+          (all-clean _ refl refl e (λ i q. drains-all (a .agrees .good) (k .state .l) (omega arith) .clean i q) _ _)
+
+  pub step-goes-on : (x c : ℕ) → x < k .state .t → isIdle (trackerAt (k .state .trackers) x) ≡ false → does k (steps x) .said ≡ Said.no c → ⊥
+  unfolding does
+  step-goes-on x c q busy e = not-both-ways (ap isNo e) (step-not-refused (k .state) (k .bytes) (k .memory) (a .is-whole) (a .right) x q busy)
+
+-- a run from a state that agrees with what its memory reads, with every tracker idle
+pub flatly : (k : Kept) (cs : List Call) → Ok k (plainGroup (k .state .n) (k .memory)) → ((x : ℕ) → trackerAt (k .state .trackers) x .phase ≡ Idle) → Values32 cs → Flatly k cs
+flatly k cs a idle-all q = go (runs cs k (plainGroup (k .state .n) (k .memory)) a q)
   where
     go : Runs k cs (plainGroup (k .state .n) (k .memory)) → Flatly k cs
     go r = record {
       answered = r .answered;
       under-way = ap (λ (f : Flat). f .trackers) (sym (r .flat-is));
+      one-moment = once;
+      in-order = row-in-order (flatOf k) (given k cs);
       reads = reads;
       tags = λ e g j. ap (λ (v : ℕ). tagOf v j) (reads e g);
       is-true = λ e. subst (λ (n : ℕ). isTrue n (ended k cs .memory) ≡ true) (r .n-is) (rest-true (ended k cs) (r .last) (r .ok-still) e);
+      drained = drain-rests (ended k cs) (r .last) (r .ok-still);
+      not-broken = λ i e. not-both-ways (ap isFour e) (ap (λ (said : List Said). isFour (getD said i ok)) (r .answered) ∙ never-4 (flatOf k) (given k cs) i);
+      goes-on = step-goes-on (ended k cs) (r .last) (r .ok-still);
     }
       where
+        once : (x : ℕ) → momentsOf x (effects (flatOf k) (given k cs)) + toCome (trackerAt (ended k cs .state .trackers) x .phase) ≡ issuesTo x (flatOf k) (given k cs)
+        once x =
+            let m = moments-of (flatOf k) (given k cs) x (whole-facts (k .state) (a .is-whole) .tracked .long) in
+            let z : toCome (trackerAt (k .state .trackers) x .phase) ≡ 0 = ap toCome (idle-all x) in
+            let e : toCome (trackerAt (flatEnded (flatOf k) (given k cs) .trackers) x .phase) ≡ toCome (trackerAt (ended k cs .state .trackers) x .phase) =
+            ap (λ (f : Flat). toCome (trackerAt (f .trackers) x .phase)) (r .flat-is) in
+            omega arith
+
         reads : atRest (ended k cs) ≡ true → (g : ℕ) → plainGroup (k .state .n) (ended k cs .memory) g ≡ flatEnded (flatOf k) (given k cs) .row g
         reads e g = subst (λ (n : ℕ). plainGroup n (ended k cs .memory) g ≡ r .last g) (r .n-is) (rest-reads (ended k cs) (r .last) (r .ok-still) e g)
             ∙ ap (λ (f : Flat). f .row g) (sym (r .flat-is))
@@ -107,9 +148,6 @@ module _ (n t l : ℕ) (bytes memory : List ℕ) (lim : limits n t l ≡ true) (
   }
 
 module _ (n t l : ℕ) (bytes memory : List ℕ) where
-  no-ok : {c : ℕ} → _≡_ {A = Said} (Said.no c) ok → ⊥
-  no-ok {c} e = let z : _≡_ {A = ℕ} 0 1 = cc in omega arith
-
   fresh-1 : limits n t l ≡ false → fresh n t l bytes memory ≡ refused 1 zeroState bytes memory
   unfolding fresh
   fresh-1 e = rw e
@@ -161,9 +199,32 @@ module _ (n t l : ℕ) (bytes memory : List ℕ) where
       go (inl e) (inl f) (inr g) = absurd (no-ok (ap (λ (o : Out). o .said) (sym (opened-3 e f g)) ∙ s))
       go (inl e) (inl f) (inl g) = subst (λ (o : Out). Ok (kept o) (plainGroup (o .state .n) (o .memory))) (sym (opened-ok e f g)) (begun-ok n t l bytes memory e f g)
 
+  -- every tracker is idle then
+  begun-idle : (o : Out) → o .state .trackers ≡ replicate 8 idle → (x : ℕ) → trackerAt (o .state .trackers) x .phase ≡ Idle
+  begun-idle o e x = ap (λ (ts : List Tracker). trackerAt ts x .phase) e ∙ ap (λ (u : Tracker). u .phase) (getD-replicate 8 x idle)
+
+  fresh-idle : (x : ℕ) → trackerAt (fresh n t l bytes memory .state .trackers) x .phase ≡ Idle
+  fresh-idle = begun-idle (fresh n t l bytes memory) (go (true-or-false (limits n t l)) (true-or-false (lengthsRight n l bytes memory)))
+    where
+      go : (limits n t l ≡ true) ⊎ (limits n t l ≡ false) → (lengthsRight n l bytes memory ≡ true) ⊎ (lengthsRight n l bytes memory ≡ false)
+          → fresh n t l bytes memory .state .trackers ≡ replicate 8 idle
+      go (inr e) f = ap (λ (o : Out). o .state .trackers) (fresh-1 e)
+      go (inl e) (inr f) = ap (λ (o : Out). o .state .trackers) (fresh-2 e f)
+      go (inl e) (inl f) = ap (λ (o : Out). o .state .trackers) (fresh-ok e f)
+
+  opened-idle : (x : ℕ) → trackerAt (opened n t l bytes memory .state .trackers) x .phase ≡ Idle
+  opened-idle = begun-idle (opened n t l bytes memory) (go (true-or-false (limits n t l)) (true-or-false (lengthsRight n l bytes memory)) (true-or-false (isTrue n memory)))
+    where
+      go : (limits n t l ≡ true) ⊎ (limits n t l ≡ false) → (lengthsRight n l bytes memory ≡ true) ⊎ (lengthsRight n l bytes memory ≡ false) → (isTrue n memory ≡ true) ⊎ (isTrue n memory ≡ false)
+          → opened n t l bytes memory .state .trackers ≡ replicate 8 idle
+      go (inr e) f g = ap (λ (o : Out). o .state .trackers) (opened-1 e)
+      go (inl e) (inr f) g = ap (λ (o : Out). o .state .trackers) (opened-2 e f)
+      go (inl e) (inl f) (inr g) = ap (λ (o : Out). o .state .trackers) (opened-3 e f g)
+      go (inl e) (inl f) (inl g) = ap (λ (o : Out). o .state .trackers) (opened-ok e f g)
+
   -- DEMAND 2
   pub fresh-is-flat : fresh n t l bytes memory .said ≡ ok → (cs : List Call) → Values32 cs → Flatly (kept (fresh n t l bytes memory)) cs
-  fresh-is-flat s cs q = flatly (kept (fresh n t l bytes memory)) cs (fresh-agrees s) q
+  fresh-is-flat s cs q = flatly (kept (fresh n t l bytes memory)) cs (fresh-agrees s) fresh-idle q
 
   pub opened-is-flat : opened n t l bytes memory .said ≡ ok → (cs : List Call) → Values32 cs → Flatly (kept (opened n t l bytes memory)) cs
-  opened-is-flat s cs q = flatly (kept (opened n t l bytes memory)) cs (opened-agrees s) q
+  opened-is-flat s cs q = flatly (kept (opened n t l bytes memory)) cs (opened-agrees s) opened-idle q

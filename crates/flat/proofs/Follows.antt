@@ -3,35 +3,32 @@ use mathlib.Core.Path.{_≡_, refl, sym, ap, _∙_, subst}
 use mathlib.Core.Bool.{Bool, true, false}
 use mathlib.Core.List.{List, []}
 use mathlib.Core.Logic.{_⊎_, inl, inr, ⊎-elim}
-use Prim.Native.Nat.{ℕ, zero, suc, _+_, _*_, _<_, _≤_}
+use Prim.Native.Nat.{ℕ, _*_, _<_, _≤_}
 use native.Mathlib.Omega.{arith}
-use lib.Dec.{ltb, eqb}
-use lib.ListN.{length, getD, set}
+use lib.Dec.{ltb}
+use lib.ListN.{set}
 use borrow.Author.Tests.{lt-ltb, le-ltb}
 use Rattle.laws.specs.Choice.{pick}
-use Rattle.laws.specs.Scan.{all}
-use Rattle.laws.proofs.Choice.{not-both-ways, true-or-false}
+use Rattle.laws.proofs.Choice.{true-or-false}
 use Rattle.laws.proofs.Splice.{lt-or-ge}
 use Rattle.geometry.specs.TagMemory.{leafOf}
-use Rattle.tracker.specs.declared.Phase.{Phase}
-use Rattle.tracker.specs.declared.Phase.the-variants.{Idle, Probe, Map, Leaf, Set, Clear}
 use Rattle.tracker.specs.declared.Tracker.{Tracker}
-use Rattle.tracker.specs.Tracker.{idle, isIdle, isIdleAt, issued, firstPhase}
-use Rattle.tracker.specs.Answer.{Said, ok}
+use Rattle.tracker.specs.Tracker.{isIdle, issued, firstPhase}
+use Rattle.tracker.specs.Answer.{ok}
 use Rattle.line.specs.Find.{lineOf}
 use Rattle.rules.specs.State.{State, Rows, trackerAt, lengthsRight}
-use Rattle.rules.specs.Whole.{mapBlock, whole}
+use Rattle.rules.specs.Whole.{whole}
 use Rattle.rules.specs.Place.{drained}
 use Rattle.rules.specs.Step.{byPhase}
 use Rattle.rules.specs.Calls.{Out, refused, accepted, withTracker, withLines, issueNo, issue, stepped, stepNo, step, allIdle, drainNo, drain}
 use Rattle.rules.specs.Run.{Call, issues, steps, drains, lends, Kept, kept, elsewhere, does}
 use Rattle.rules.proofs.Whole.{Whole, whole-facts}
-use Rattle.rules.proofs.Calls.{Sound, refused-sound, rows-fit, turn-byPhase, step-is, step-sound, step-idle, step-past, issue-past, issue-group, issue-busy, issue-accepted, issue-kept, drain-is, drain-sound, drain-busy}
-use Rattle.flat.specs.Flat.{Row, Flat, Reply, Course, course, courseOf, says, rowBy, trackerBy, effectBy, withRow, someHolds, refuse, flatIssue, flatStep, flatDrain, flatDoes}
+use Rattle.rules.proofs.Calls.{rows-fit, turn-byPhase, step-is, step-sound, step-idle, step-past, issue-past, issue-group, issue-busy, issue-accepted, issue-kept, drain-is, drain-sound, drain-busy, drains as drains-lined}
+use Rattle.flat.specs.Flat.{Row, Flat, Reply, Course, courseOf, says, rowBy, trackerBy, effectBy, withRow, refuse, flatIssue, flatStep, flatDrain, flatDoes}
 use Rattle.flat.specs.Demand.{found, Value32}
-use Rattle.flat.proofs.Agrees.{atFinish, Finishes, Fits, Agrees, agrees-same, agrees-rows}
+use Rattle.flat.proofs.Agrees.{Fits, Agrees, finish-busy, agrees-same, agrees-rows}
 use Rattle.flat.proofs.Steps.{Plays, plays-byPhase}
-use Rattle.flat.proofs.Drains.{Drained}
+use Rattle.flat.proofs.Drains.{drains as drains-same}
 
 abbrev pub rowsOf : Kept → Rows
 rowsOf k = record { lines = k .state .lines; bytes = k .bytes; memory = k .memory }
@@ -100,14 +97,6 @@ module _ {k : Kept} {row : Row} (a : Ok k row) where
         unfolding flatIssue
         flat-issued e = rw (lt-ltb _ _ xl, lt-ltb _ _ gl, e)
 
-        idle-not : (p : Phase) → isIdleAt p ≡ true → atFinish p ≡ true → ⊥
-        idle-not Idle p q = not-both-ways q refl
-        idle-not Probe p q = not-both-ways q refl
-        idle-not Map p q = not-both-ways q refl
-        idle-not Leaf p q = not-both-ways q refl
-        idle-not Set p q = not-both-ways p refl
-        idle-not Clear p q = not-both-ways p refl
-
         first-fits : (b : Bool) → Fits row (issued write b g v) (firstPhase b)
         first-fits true = tt
         first-fits false = tt
@@ -119,7 +108,7 @@ module _ {k : Kept} {row : Row} (a : Ok k row) where
         issued-agrees : isIdle (trackerAt (k .state .trackers) x) ≡ true → v < 4294967296
             → Agrees (k .state .n) (k .state .l) (rowsOf k) (set (k .state .trackers) x (issued write bottom g v)) row
         issued-agrees e q = agrees-same (a .agrees) x (omega (arith, w .tracked .long)) (issued write bottom g v) (value-small q write) (a .agrees .good) (λ b bl. refl) (a .agrees .lined)
-            (λ j f. idle-not (trackerAt (k .state .trackers) x .phase) e (f .is-there)) (first-fits bottom)
+            (λ j f. finish-busy (trackerAt (k .state .trackers) x .phase) e (f .is-there)) (first-fits bottom)
 
     follows-issue : v < 4294967296 → Follows k (issues x write bottom g v) row
     follows-issue q = go (lt-or-ge x (k .state .t)) (lt-or-ge g (16 * k .state .n)) (true-or-false (isIdle (trackerAt (k .state .trackers) x)))
@@ -157,7 +146,7 @@ module _ {k : Kept} {row : Row} (a : Ok k row) where
 
       flat-turn : x < k .state .t → isIdle (trackerAt (k .state .trackers) x) ≡ false
           → flatStep (flatWith k row) f x ≡ (let t = trackerAt (k .state .trackers) x in let c = courseOf (flatWith k row) f x in
-          record { said = says row t c; flat = withRow (flatWith k row) (rowBy row t c) x (trackerBy t c); effect = effectBy t c })
+          record { said = says row t c; flat = withRow (flatWith k row) (rowBy row t c) x (trackerBy t c); effect = effectBy x t c })
       unfolding flatStep
       flat-turn q e = rw (lt-ltb _ _ q, e)
 
@@ -180,7 +169,7 @@ module _ {k : Kept} {row : Row} (a : Ok k row) where
           let is = step-is (k .state) (k .bytes) (k .memory) (a .is-whole) (a .right) x xl busy ∙ ap (stepped (k .state) x) (turn-byPhase (k .state) (k .bytes) (k .memory) (a .is-whole) (a .right) x xl busy) in
           let s = step-sound (k .state) (k .bytes) (k .memory) (a .is-whole) (a .right) x xl busy in
           follows-by (stepped (k .state) x (byPhase (k .state .n) (k .state .l) (k .state .hand) x u (rowsOf k) (u .phase)))
-          (record { said = says row u c; flat = withRow (flatWith k row) (rowBy row u c) x (trackerBy u c); effect = effectBy u c })
+          (record { said = says row u c; flat = withRow (flatWith k row) (rowBy row u c) x (trackerBy u c); effect = effectBy x u c })
           (rowBy row u c) (does-step ∙ is) (flat-step ∙ flat-turn in-line xl busy) (plays .said-is)
           (ap (λ (z : Tracker). withRow (flatWith k row) (rowBy row u c) x z) (sym (plays .tracker-is)))
           (record { is-whole = rw is at (s .is-whole); right = rw is at (s .right); agrees = plays .agrees }) refl
@@ -218,8 +207,8 @@ module _ {k : Kept} {row : Row} (a : Ok k row) where
       go (inl e) =
           let is = drain-is (k .state) (k .bytes) (k .memory) (a .is-whole) (a .right) e in
           let s = drain-sound (k .state) (k .bytes) (k .memory) (a .is-whole) (a .right) e in
-          let d = Rattle.flat.proofs.Drains.drains (a .agrees .good) (k .state .l) (omega arith) in
-          let b : drained (k .state .l) (rowsOf k) .bytes ≡ k .bytes = Rattle.rules.proofs.Calls.drains (k .state) (k .bytes) (k .memory) (a .is-whole) (a .right) e (k .state .l) (omega arith) .bytes-is in
+          let d = drains-same (a .agrees .good) (k .state .l) (omega arith) in
+          let b : drained (k .state .l) (rowsOf k) .bytes ≡ k .bytes = drains-lined (k .state) (k .bytes) (k .memory) (a .is-whole) (a .right) e (k .state .l) (omega arith) .bytes-is in
           follows-by (accepted (withLines (k .state) (drained (k .state .l) (rowsOf k) .lines)) (k .bytes) (drained (k .state .l) (rowsOf k) .memory))
           (record { said = ok; flat = flatWith k row; effect = [] }) row (does-drain ∙ is) (flat-drain ∙ flat-drained e) refl refl
           (record {

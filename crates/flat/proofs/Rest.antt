@@ -1,13 +1,13 @@
 -- Where nothing is under way and no line is changed, memory holds every block as it is: plain reading is the row, and memory is true.
 -- And the other way: over a true memory with no lines, what it reads agrees with it.
-use mathlib.Core.Path.{_≡_, refl, sym, ap, _∙_, subst}
-use mathlib.Core.Bool.{Bool, true, false}
+use mathlib.Core.Path.{_≡_, refl, sym, ap, _∙_}
+use mathlib.Core.Bool.{Bool, true, false, not}
 use mathlib.Core.List.{List}
 use mathlib.Core.Logic.{_⊎_, inl, inr, ⊎-elim}
-use Prim.Native.Nat.{ℕ, zero, suc, _+_, _*_, _/_, _%_, _<_, _≤_}
+use Prim.Native.Nat.{ℕ, _+_, _*_, _<_, _≤_}
 use native.Mathlib.Omega.{arith}
 use native.Mathlib.Decide.{ℕ-discrete}
-use lib.ListN.{length, getD, replicate}
+use lib.ListN.{length}
 use Rattle.laws.specs.Choice.{pick}
 use Rattle.laws.proofs.Choice.{not-both-ways, true-or-false}
 use Rattle.laws.proofs.Splice.{lt-or-ge}
@@ -24,10 +24,10 @@ use Rattle.line.specs.Word.{changed}
 use Rattle.rules.specs.State.{Rows, trackerAt}
 use Rattle.rules.proofs.Lined.{at, Has}
 use Rattle.flat.specs.Flat.{Row, tagged}
-use Rattle.flat.proofs.Views.{Has64, block-length, group-block, bit-block, empty-group}
+use Rattle.flat.proofs.Views.{block-length, group-block, bit-block, empty-group}
 use Rattle.flat.proofs.Tags.{untagged, tagged-none, tagged-full}
 use Rattle.flat.proofs.Contents.{content, Good, content-in, content-out, lined-or-not}
-use Rattle.flat.proofs.Agrees.{bitOn, atFinish, Finishes, Fits, Agrees}
+use Rattle.flat.proofs.Agrees.{bitOn, Finishes, Agrees, finish-busy}
 
 -- a bit and a group of memory, in their blocks
 module _ (n : ℕ) (m : List ℕ) (long : length m ≡ 64 * blocks n) where
@@ -60,15 +60,7 @@ module _ {n l : ℕ} {r : Rows} {ts : List Tracker} {row : Row} (A : Agrees n l 
       go (inr o) = content-out (A .good) b o
 
   none-finishes : (k x : ℕ) → Finishes (trackerAt ts x) k → ⊥
-  none-finishes k x f = by (trackerAt ts x .phase) (rest x) (f .is-there)
-    where
-      by : (p : Rattle.tracker.specs.declared.Phase.Phase) → Rattle.tracker.specs.Tracker.isIdleAt p ≡ true → atFinish p ≡ true → ⊥
-      by Rattle.tracker.specs.declared.Phase.the-variants.Idle a b = not-both-ways b refl
-      by Rattle.tracker.specs.declared.Phase.the-variants.Probe a b = not-both-ways b refl
-      by Rattle.tracker.specs.declared.Phase.the-variants.Map a b = not-both-ways b refl
-      by Rattle.tracker.specs.declared.Phase.the-variants.Leaf a b = not-both-ways b refl
-      by Rattle.tracker.specs.declared.Phase.the-variants.Set a b = not-both-ways a refl
-      by Rattle.tracker.specs.declared.Phase.the-variants.Clear a b = not-both-ways a refl
+  none-finishes k x f = finish-busy (trackerAt ts x .phase) (rest x) (f .is-there)
 
   long : length (r .memory) ≡ 64 * blocks n
   long = A .good .memory-long
@@ -141,7 +133,7 @@ module _ (n l : ℕ) (r : Rows) (ts : List Tracker) (lb : length (r .bytes) ≡ 
       tagged-full row0 k (blockAt (r .memory) k) (block-length (r .memory) k (omega (arith, lm))) (groups-1 k e)
       (full (allZero (blockAt (r .memory) k)) refl (sym (trueAt-1 n (r .memory) k e kl) ∙ isTrue-at n (r .memory) tr k (omega arith)))
     where
-      full : (z : Bool) → allZero (blockAt (r .memory) k) ≡ z → mathlib.Core.Bool.not z ≡ true → z ≡ false
+      full : (z : Bool) → allZero (blockAt (r .memory) k) ≡ z → not z ≡ true → z ≡ false
       full true e h = absurd (not-both-ways h refl)
       full false e h = refl
 

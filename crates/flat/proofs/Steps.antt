@@ -3,43 +3,41 @@ use mathlib.Core.Path.{_≡_, refl, sym, ap, _∙_, subst}
 use mathlib.Core.Bool.{Bool, true, false}
 use mathlib.Core.List.{List}
 use mathlib.Core.Logic.{_⊎_, inl, inr, ⊎-elim}
-use Prim.Native.Nat.{ℕ, zero, suc, _+_, _-_, _*_, _/_, _%_, _<_, _≤_}
+use Prim.Native.Nat.{ℕ, _+_, _-_, _*_, _<_, _≤_}
 use native.Mathlib.Omega.{arith}
 use native.Mathlib.Decide.{ℕ-discrete}
 use lib.Dec.{eqb, ltb}
-use lib.ListN.{length, getD, set, replicate, length-replicate}
-use borrow.Author.Tests.{lt-ltb, le-ltb}
-use Rattle.laws.specs.Choice.{pick, both}
-use Rattle.laws.specs.Scan.{all}
+use lib.ListN.{length, set}
+use borrow.Author.Tests.{lt-ltb, le-ltb, eqb-true}
+use Rattle.laws.specs.Choice.{pick, both, no as negated}
 use Rattle.laws.proofs.Choice.{not-both-ways, true-or-false, both-left, both-right, both-true, both-false-left, both-false-right}
 use Rattle.laws.proofs.Splice.{lt-or-ge}
 use Rattle.laws.proofs.Scan.{all-is, all-fails}
 use Rattle.geometry.specs.TagMemory.{blocks, mapBlocks, leafOf, byteOf, mapBlockOf, mapByteOf, mapBitOf, blockPlace}
 use Rattle.block.specs.Block.{groupAt, putGroup, putBit, allZero}
-use Rattle.memory.specs.True.{blockAt}
 use Rattle.tracker.specs.declared.Phase.{Phase}
 use Rattle.tracker.specs.declared.Phase.the-variants.{Idle, Probe, Map, Leaf, Set, Clear}
 use Rattle.tracker.specs.declared.Tracker.{Tracker}
 use Rattle.tracker.specs.Tracker.{idle, isIdle, isIdleAt, holdsAt, goesTo, counted}
-use Rattle.tracker.specs.Answer.{Said, wait, moved, read, done, same}
-use Rattle.line.specs.Word.{used, blockOf, holder, held, heldBy, word}
+use Rattle.tracker.specs.Answer.{Said, read, done, same}
+use Rattle.line.specs.Word.{blockOf, holder, held, word}
 use Rattle.line.specs.Find.{lineOf}
 use Rattle.rules.specs.State.{Rows, trackerAt}
 use Rattle.rules.specs.Whole.{limits, mapBlock, holds}
-use Rattle.rules.specs.Place.{lineBytes, rowsFit, placeLine, placeHand, placeMemory, Brought, filled, withMemory, withLines, writtenBack, bringIn}
-use Rattle.rules.specs.Step.{Turned, ends, goes, waits, turnsOf, groupIn, bitIn, letGo, probe, holdsMap, onMap, map, leafRead, putIn, writeUnder1, writeUnder0, newLeaf, leafWrite, finish, holding, inLine, byPhase}
-use Rattle.rules.proofs.Words.{held-holder, holder-held, used-word, blockOf-word}
-use Rattle.rules.proofs.Lined.{at, Has, Held, Lined, low, lineOf-is, lineOf-has, lineOf-none}
-use Rattle.rules.proofs.Whole.{heldOf, heldOf-yes, heldOf-is, heldOf-holds, Tracked, l-least, t-most}
+use Rattle.rules.specs.Place.{lineBytes, rowsFit, placeLine, placeHand, Brought, filled, withMemory, withLines, writtenBack, bringIn}
+use Rattle.rules.specs.Step.{Turned, ends, goes, waits, turnsOf, groupIn, bitIn, letGo, probe, holdsMap, onMap, map, leafRead, putIn, writeUnder1, writeUnder0, newLeaf, leafWrite, finish, holding, byPhase}
+use Rattle.rules.proofs.Words.{held-holder, holder-held}
+use Rattle.rules.proofs.Lined.{at, Has, Held, Lined, low, lineOf-is, lineOf-has}
+use Rattle.rules.proofs.Whole.{heldOf, heldOf-yes, heldOf-holds, Tracked, l-least, t-most}
 use Rattle.rules.proofs.Placed.{Brings, brings, place-loose, place-memory}
 use Rattle.rules.proofs.Keeps.{blocks-small, j-lt, j-has, j-holder}
-use Rattle.rules.proofs.Ways.{probe-miss, probe-read, probe-same, probe-other, map-read, map-same, map-create, map-hold, map-wait, map-on, leafRead-is, write1-same, write1-put, write0-same, write0-line, write0-place, leafWrite-0, leafWrite-1, bytesWith, putIn-empty, putIn-done, inLine-is}
-use Rattle.flat.specs.Flat.{Row, put, tagged, after, answer, changesNothing, Course, course, says, rowBy, trackerBy, someHolds}
+use Rattle.rules.proofs.Ways.{probe-miss, probe-read, probe-same, probe-other, map-read, map-same, map-create, map-hold, map-wait, map-on, leafRead-is, write1-same, write1-put, write0-same, write0-place, leafWrite-0, leafWrite-1, bytesWith, putIn-empty, putIn-done, inLine-is}
+use Rattle.flat.specs.Flat.{Row, put, tagged, after, answer, Course, course, says, rowBy, trackerBy, someHolds}
 use Rattle.flat.proofs.Views.{Has64, group-block, bit-block, group-here, group-there, group-whole, bit-here, bit-there, bit-whole, put-groups, group-length, put-long, zeros, zeros-long, new-leaf}
 use Rattle.flat.proofs.Tags.{untagged, tagged-at, tagged-empty, tagged-full}
 use Rattle.flat.proofs.Contents.{content, Good, content-in, has-same}
-use Rattle.flat.proofs.Rows.{Same, content-length, line-length, placed-good, placed-here, placed-other, placed-had, written-good, written-here, written-other, written-had, written-still, freed-good, freed-other, freed-had, mark-same, mark-had, BringsIn, brings-in}
-use Rattle.flat.proofs.Agrees.{bitOn, atFinish, Finishes, Fits, Agrees, agrees-same, agrees-leaf, agrees-bit}
+use Rattle.flat.proofs.Rows.{Same, Placing, Writing, line-length, placed-good, placed-here, placed-other, placed-had, written-good, written-here, written-other, written-had, written-still, freed-good, freed-other, freed-had, mark-same, mark-had, BringsIn, brings-in}
+use Rattle.flat.proofs.Agrees.{bitOn, atFinish, Finishes, Fits, Agrees, finish-holds, agrees-same, agrees-leaf, agrees-bit}
 use Rattle.flat.proofs.Course.{put-here, put-far, reads-nothing, answer-read, after-read, after-write, same-nothing, answer-same, after-same, other-something, answer-done, probe-ends, probe-missed, probe-goes, map-waits, map-goes-tagged, map-goes, map-ends, leaf-ends, leaf-sets, leaf-clears, leaf-done}
 
 pub same-then : {B l : ℕ} {r r1 r2 : Rows} → Same B l r r1 → Same B l r1 r2 → Same B l r r2
@@ -131,17 +129,6 @@ module _ (n t l hand x : ℕ) (ts : List Tracker) (r : Rows) (lim : limits n t l
       rests Set a b = not-both-ways a refl
       rests Clear a b = not-both-ways a refl
 
-  finish-holds : (y j : ℕ) → Finishes (trackerAt ts y) j → holdsAt (trackerAt ts y .phase) ≡ true
-  finish-holds y j f = by (trackerAt ts y .phase) (f .is-there)
-    where
-      by : (p : Phase) → atFinish p ≡ true → holdsAt p ≡ true
-      by Idle e = absurd (not-both-ways e refl)
-      by Probe e = absurd (not-both-ways e refl)
-      by Map e = absurd (not-both-ways e refl)
-      by Leaf e = refl
-      by Set e = refl
-      by Clear e = refl
-
   finish-block : (y j : ℕ) → Finishes (trackerAt ts y) j → mapBlock n (trackerAt ts y .group) ≡ n + mapBlockOf j
   finish-block y j f = ap (λ (z : ℕ). n + mapBlockOf z) (f .is-leaf)
 
@@ -216,8 +203,8 @@ module _ (n t l hand x : ℕ) (ts : List Tracker) (r : Rows) (lim : limits n t l
 
   -- Map
   module _ (ph : u .phase ≡ Map) where
-    x1 : x + 1 < 128
-    x1 = omega (arith, t-most n t l lim)
+    mark-fits : x + 1 < 128
+    mark-fits = omega (arith, t-most n t l lim)
 
     map-lined : (i j : ℕ) → j < n → Has (bringIn l hand (mapBlock n (u .group)) r .rows .lines) i j → tagged row j ≡ true
     map-lined i j q h = ⊎-elim (λ o. A .lined i j q o) (λ e. absurd (let z : j ≡ n + mapBlockOf (leafOf (u .group)) = e in omega arith)) (map-in .had i j h)
@@ -225,7 +212,7 @@ module _ (n t l hand x : ℕ) (ts : List Tracker) (r : Rows) (lim : limits n t l
     -- the block is held by nobody
     module _ (free : (y : ℕ) → holdsAt (trackerAt ts y .phase) ≡ true → mapBlock n (trackerAt ts y .group) ≡ mapBlock n (u .group) → ⊥) (found hd : Bool) (hf : hd ≡ false) where
       none-finishes : (y : ℕ) → Finishes (trackerAt ts y) (leafOf (u .group)) → ⊥
-      none-finishes y f = free y (finish-holds y _ f) (finish-block y _ f)
+      none-finishes y f = free y (finish-holds (trackerAt ts y .phase) (f .is-there)) (finish-block y _ f)
 
       map-bit : bitIn (bringIn l hand (mapBlock n (u .group)) r .rows .bytes) (bringIn l hand (mapBlock n (u .group)) r .line) (u .group) ≡ pick (tagged row (leafOf (u .group))) 1 0
       map-bit = bit-read (map-in .rows) _ (map-brings .has-it) none-finishes
@@ -236,8 +223,8 @@ module _ (n t l hand x : ℕ) (ts : List Tracker) (r : Rows) (lim : limits n t l
       map-held : course row found hd u Map ≡ Course.goes Leaf → (u .write ≡ false → tagged row (leafOf (u .group)) ≡ true)
           → Plays n l x ts row u (course row found hd u Map) (holdsMap x u (bringIn l hand (mapBlock n (u .group)) r))
       map-held e ft = plays-goes _ Leaf e (moves-on
-          (same-then (map-in .rows) (mark-same (map-in .rows .good) _ _ (x + 1) (map-brings .has-it) small x1))
-          (λ i j q h. map-lined i j q (mark-had (map-in .rows .good) _ _ (x + 1) (map-brings .has-it) small x1 i j h))
+          (same-then (map-in .rows) (mark-same (map-in .rows .good) _ _ (x + 1) (map-brings .has-it) small mark-fits))
+          (λ i j q h. map-lined i j q (mark-had (map-in .rows .good) _ _ (x + 1) (map-brings .has-it) small mark-fits i j h))
           Map ph refl (goesTo u Leaf) value-ok ft)
 
       plays-onMap : Plays n l x ts row u (course row found hd u Map) (onMap x u (bringIn l hand (mapBlock n (u .group)) r))
@@ -258,7 +245,7 @@ module _ (n t l hand x : ℕ) (ts : List Tracker) (r : Rows) (lim : limits n t l
 
     -- somebody holds the block exactly if its line names a holder
     named-some : lineOf (r .lines) l (mapBlock n (u .group)) < l → held (at (r .lines) (lineOf (r .lines) l (mapBlock n (u .group)))) ≡ true → someHolds n t ts (mapBlock n (u .group)) ≡ true
-    unfolding someHolds Rattle.laws.specs.Choice.no
+    unfolding someHolds negated
     named-some q h =
         let i = lineOf (r .lines) l (mapBlock n (u .group)) in
         let p : 0 < holder (at (r .lines) i) = held-holder _ h in
@@ -266,15 +253,15 @@ module _ (n t l hand x : ℕ) (ts : List Tracker) (r : Rows) (lim : limits n t l
         let z = o .0 in
         let hy : holds n (trackerAt ts (holder (at (r .lines) i) - 1)) (mapBlock n (u .group)) ≡ true = heldOf-holds n ts _ _ (o .1) in
         let yl : holder (at (r .lines) i) - 1 < t = omega arith in
-        rw (all-fails (λ y. Rattle.laws.specs.Choice.no (holds n (trackerAt ts y) (mapBlock n (u .group)))) t (holder (at (r .lines) i) - 1) yl (rw hy))
+        rw (all-fails (λ y. negated (holds n (trackerAt ts y) (mapBlock n (u .group)))) t (holder (at (r .lines) i) - 1) yl (rw hy))
 
     some-not : ((y : ℕ) → holdsAt (trackerAt ts y .phase) ≡ true → mapBlock n (trackerAt ts y .group) ≡ mapBlock n (u .group) → ⊥) → someHolds n t ts (mapBlock n (u .group)) ≡ false
-    unfolding someHolds Rattle.laws.specs.Choice.no holds
-    some-not free = rw (all-is (λ y. Rattle.laws.specs.Choice.no (holds n (trackerAt ts y) (mapBlock n (u .group)))) t (λ y q. none y (true-or-false (holds n (trackerAt ts y) (mapBlock n (u .group))))))
+    unfolding someHolds negated holds
+    some-not free = rw (all-is (λ y. negated (holds n (trackerAt ts y) (mapBlock n (u .group)))) t (λ y q. none y (true-or-false (holds n (trackerAt ts y) (mapBlock n (u .group))))))
       where
         none : (y : ℕ) → (holds n (trackerAt ts y) (mapBlock n (u .group)) ≡ true) ⊎ (holds n (trackerAt ts y) (mapBlock n (u .group)) ≡ false)
-            → Rattle.laws.specs.Choice.no (holds n (trackerAt ts y) (mapBlock n (u .group))) ≡ true
-        none y (inl h) = absurd (free y (both-left _ _ h) (borrow.Author.Tests.eqb-true _ _ (both-right _ _ h)))
+            → negated (holds n (trackerAt ts y) (mapBlock n (u .group))) ≡ true
+        none y (inl h) = absurd (free y (both-left _ _ h) (eqb-true _ _ (both-right _ _ h)))
         none y (inr h) = rw h
 
     not-named : (both (ltb (lineOf (r .lines) l (mapBlock n (u .group))) l) (held (at (r .lines) (lineOf (r .lines) l (mapBlock n (u .group))))) ≡ false)
@@ -351,14 +338,17 @@ module _ (n t l hand x : ℕ) (ts : List Tracker) (r : Rows) (lim : limits n t l
       fthere : (i : ℕ) → i < l → (i ≡ j → ⊥) → lineBytes fbytes i ≡ lineBytes (r .bytes) i
       fthere i q ne = bit-there (r .bytes) j f64 fo fb bit (omega arith) (omega arith) i (line-64 here i q) ne
 
+      bit-write : Writing (blocks n) l r j fm fbytes fy
+      bit-write = record { has-it = in-j; small = small; long = flong; here = fhere; there = fthere }
+
       plays-finish : Plays n l x ts row u Course.finishes (finish n hand j bit u r)
       unfolding finish
       plays-finish = plays-finishes hand refl (agrees-bit A x xlong idle zero-ok (leafOf (u .group)) bit leaf-ok bl tg
           (λ k' f. sym (f .is-leaf) ∙ ap (λ (z : Tracker). leafOf (z .group)) is)
-          (written-good (A .good) j fm in-j small fbytes fy flong fhere fthere)
-          (λ d q ne. written-other (A .good) j fm in-j small fbytes fy flong fhere fthere d q ne)
-          (written-here (A .good) j fm in-j small fbytes fy flong fhere fthere ∙ ap (λ (c : List ℕ). putBit c fo fb bit) (sym (content-in (A .good) j fm in-j)))
-          (λ i d q hd. A .lined i d q (written-had (A .good) j fm in-j small fbytes fy flong fhere fthere i d hd))
+          (written-good (A .good) bit-write)
+          (λ d q ne. written-other (A .good) bit-write d q ne)
+          (written-here (A .good) bit-write ∙ ap (λ (c : List ℕ). putBit c fo fb bit) (sym (content-in (A .good) j fm in-j)))
+          (λ i d q hd. A .lined i d q (written-had (A .good) bit-write i d hd))
           tt)
 
     -- Leaf
@@ -371,7 +361,7 @@ module _ (n t l hand x : ℕ) (ts : List Tracker) (r : Rows) (lim : limits n t l
         where
           go : Dec (y ≡ x) → ⊥
           go (yes q) = not-at-finish Leaf ph refl (leafOf (u .group)) (rw q at f)
-          go (no q) = alone y q (finish-holds y _ f) (finish-block y _ f)
+          go (no q) = alone y q (finish-holds (trackerAt ts y .phase) (f .is-there)) (finish-block y _ f)
 
       -- line j is as it was once the leaf is in a line
       in-j-still : Has (b .rows .lines) j (mapBlock n (u .group))
@@ -421,6 +411,9 @@ module _ (n t l hand x : ℕ) (ts : List Tracker) (r : Rows) (lim : limits n t l
           put-not-there : (i : ℕ) → i < l → (i ≡ b .line → ⊥) → lineBytes (bytesWith u b) i ≡ lineBytes (b .rows .bytes) i
           put-not-there i q n' = group-there (b .rows .bytes) (b .line) b64 (byteOf (u .group)) (u .value) (omega arith) i (line-64 (leaf-in .rows) i q) n'
 
+          put-write : Writing (blocks n) l (b .rows) (b .line) (leafOf (u .group)) (bytesWith u b) withV
+          put-write = record { has-it = leaf-brings .has-it; small = small; long = whole-long; here = put-in-line; there = put-not-there }
+
           v-long : length withV ≡ 64
           v-long = group-length (b .rows .bytes) (b .line) b64 (byteOf (u .group)) (u .value) (omega arith)
 
@@ -439,10 +432,10 @@ module _ (n t l hand x : ℕ) (ts : List Tracker) (r : Rows) (lim : limits n t l
               let off : tagged (put row (u .group) (u .value)) (leafOf (u .group)) ≡ false = tagged-empty (put row (u .group) (u .value)) (leafOf (u .group)) withV v-long new-groups z in
               plays-takes (b .hand) Clear (leaf-clears row found hd u (other-something row u wr ne) tg (rw (after-write row u wr) off))
               (rw (after-write row u wr) (agrees-leaf A x xlong (goesTo u Clear) value-ok (u .group) (u .value) group-ok alone (not-at-finish Leaf ph refl)
-              (freed-good (leaf-in .rows .good) (b .line) _ (leaf-brings .has-it) small (bytesWith u b) withV whole-long put-in-line put-not-there)
-              (λ d q n'. freed-other (leaf-in .rows .good) (b .line) _ (leaf-brings .has-it) small (bytesWith u b) withV whole-long put-in-line put-not-there d q n' ∙ leaf-in .rows .same d q)
+              (freed-good (leaf-in .rows .good) put-write)
+              (λ d q n'. freed-other (leaf-in .rows .good) put-write d q n' ∙ leaf-in .rows .same d q)
               (λ e. absurd (not-both-ways e off))
-              (λ i d q hd. let o = freed-had (leaf-in .rows .good) (b .line) _ (leaf-brings .has-it) small (bytesWith u b) withV whole-long put-in-line put-not-there i d hd in
+              (λ i d q hd. let o = freed-had (leaf-in .rows .good) put-write i d hd in
               put-far row (u .group) (u .value) d (o .1) ∙ leaf-lined tg i d q (o .0))
               (inl (record { is-there = refl; is-leaf = refl }))
               off))
@@ -452,7 +445,7 @@ module _ (n t l hand x : ℕ) (ts : List Tracker) (r : Rows) (lim : limits n t l
           written = record { lines = set (b .rows .lines) (b .line) (word (leafOf (u .group)) true 0); bytes = bytesWith u b; memory = b .rows .memory }
 
           w-good : Good (blocks n) l written
-          w-good = written-good (leaf-in .rows .good) (b .line) _ (leaf-brings .has-it) small (bytesWith u b) withV whole-long put-in-line put-not-there
+          w-good = written-good (leaf-in .rows .good) put-write
 
           apart : j ≡ b .line → ⊥
           apart e = let p : blockOf (at (b .rows .lines) j) ≡ mapBlock n (u .group) = in-j-still .is-block in
@@ -461,7 +454,7 @@ module _ (n t l hand x : ℕ) (ts : List Tracker) (r : Rows) (lim : limits n t l
               omega (arith, leaf-ok)
 
           w-j : Has (written .lines) j (mapBlock n (u .group))
-          w-j = written-still (leaf-in .rows .good) (b .line) _ (leaf-brings .has-it) small (bytesWith u b) withV whole-long put-in-line put-not-there j _ apart in-j-still
+          w-j = written-still (leaf-in .rows .good) put-write j _ apart in-j-still
 
           w-mark : Same (blocks n) l written (withLines written (letGo (written .lines) j))
           w-mark = mark-same w-good j _ 0 w-j small zero-128
@@ -474,11 +467,11 @@ module _ (n t l hand x : ℕ) (ts : List Tracker) (r : Rows) (lim : limits n t l
               (rw (after-write row u wr) (agrees-leaf A x xlong idle zero-ok (u .group) (u .value) group-ok alone (not-at-finish Leaf ph refl)
               (w-mark .good)
               (λ d q n'. w-mark .same d q
-              ∙ written-other (leaf-in .rows .good) (b .line) _ (leaf-brings .has-it) small (bytesWith u b) withV whole-long put-in-line put-not-there d q n' ∙ leaf-in .rows .same d q)
+              ∙ written-other (leaf-in .rows .good) put-write d q n' ∙ leaf-in .rows .same d q)
               (λ _ g e. new-groups g e ∙ ap (λ (c : List ℕ). groupAt c (byteOf g)) (sym (w-mark .same (leafOf (u .group)) leaf-small
-              ∙ written-here (leaf-in .rows .good) (b .line) _ (leaf-brings .has-it) small (bytesWith u b) withV whole-long put-in-line put-not-there)))
+              ∙ written-here (leaf-in .rows .good) put-write)))
               (λ i d q hd. still-tagged on d (leaf-lined tg i d q
-              (written-had (leaf-in .rows .good) (b .line) _ (leaf-brings .has-it) small (bytesWith u b) withV whole-long put-in-line put-not-there i d
+              (written-had (leaf-in .rows .good) put-write i d
               (mark-had w-good j _ 0 w-j small zero-128 i d hd))) (ℕ-discrete d (leafOf (u .group))))
               (inr (on ∙ sym tg))
               tt))
@@ -513,11 +506,15 @@ module _ (n t l hand x : ℕ) (ts : List Tracker) (r : Rows) (lim : limits n t l
             p-lt : p < l
             p-lt = place-loose r hand v few fit .0
 
-            not-clean : true ≡ false → newLeaf u ≡ blockAt (r .memory) (leafOf (u .group))
-            not-clean e = absurd (not-both-ways refl e)
-
-            new-long : length (newLeaf u) ≡ 64
-            new-long = put-long zeros zeros-long (u .group) (u .value)
+            create : Placing (blocks n) l r p (leafOf (u .group)) true (newLeaf u)
+            create = record {
+              line-lt = p-lt;
+              exists = leaf-small;
+              small = small;
+              long = put-long zeros zeros-long (u .group) (u .value);
+              nobody = none-lined;
+              clean = λ e. absurd (not-both-ways refl e);
+            }
 
             on : tagged (put row (u .group) (u .value)) (leafOf (u .group)) ≡ true
             on = tagged-at (put row (u .group) (u .value)) (leafOf (u .group)) (u .group) refl (λ e. nz (sym (put-here row (u .group) (u .value)) ∙ e))
@@ -530,11 +527,11 @@ module _ (n t l hand x : ℕ) (ts : List Tracker) (r : Rows) (lim : limits n t l
                 (filled (withMemory r (writtenBack (r .lines) (r .bytes) (r .memory) p)) p (leafOf (u .group)) true (newLeaf u)))
             sets = plays-takes _ Set (leaf-sets row found hd u (other-something row u wr (λ e. nz (sym e ∙ row-0))) tg)
                 (rw (after-write row u wr) (agrees-leaf A x xlong (goesTo u Set) value-ok (u .group) (u .value) group-ok alone (not-at-finish Leaf ph refl)
-                (placed-good (A .good) p (leafOf (u .group)) true (newLeaf u) p-lt leaf-small small new-long none-lined not-clean)
-                (λ d q n'. placed-other (A .good) p (leafOf (u .group)) true (newLeaf u) p-lt leaf-small small new-long none-lined not-clean d q n')
+                (placed-good (A .good) create)
+                (λ d q n'. placed-other (A .good) create d q n')
                 (λ _ g e. new-leaf row (u .group) g (u .value) value-ok e (untagged row (leafOf (u .group)) tg g e)
-                ∙ ap (λ (c : List ℕ). groupAt c (byteOf g)) (sym (placed-here (A .good) p (leafOf (u .group)) true (newLeaf u) p-lt leaf-small small new-long none-lined not-clean)))
-                (λ i d q hd. tags d i q (placed-had (A .good) p (leafOf (u .group)) true (newLeaf u) p-lt leaf-small small new-long none-lined not-clean i d hd))
+                ∙ ap (λ (c : List ℕ). groupAt c (byteOf g)) (sym (placed-here (A .good) create)))
+                (λ i d q hd. tags d i q (placed-had (A .good) create i d hd))
                 (inl (record { is-there = refl; is-leaf = refl }))
                 on))
 

@@ -1,28 +1,28 @@
 -- Groups, bits and zero bytes of one block in a row of blocks, and what a write into one block leaves of the others.
 use mathlib.Core.Path.{_≡_, refl, sym, ap, _∙_, subst}
-use mathlib.Core.Bool.{Bool, true, false}
+use mathlib.Core.Bool.{true}
 use mathlib.Core.List.{List}
-use mathlib.Core.Logic.{_⊎_, inl, inr, ⊎-elim}
-use Prim.Native.Nat.{ℕ, zero, suc, _+_, _-_, _*_, _/_, _%_, _<_, _≤_}
+use mathlib.Core.Logic.{_⊎_, inl, inr}
+use Prim.Native.Nat.{ℕ, zero, suc, _+_, _*_, _/_, _%_, _<_, _≤_}
 use native.Mathlib.Omega.{arith}
 use native.Mathlib.Decide.{ℕ-discrete, decLt}
 use lib.Dec.{eqb}
-use borrow.Author.Tests.{eq-eqb, ne-eqb, eqb-true, eqb-false}
-use lib.ListN.{length, getD, set, replicate, length-set, length-replicate}
+use borrow.Author.Tests.{eq-eqb, ne-eqb}
+use lib.ListN.{length, getD, set, replicate, length-set}
 use lib.Seq.{ext-getD, getD-set-same, getD-set-other}
 use Rattle.laws.specs.Choice.{pick, both}
 use Rattle.laws.specs.Scan.{all}
 use Rattle.laws.specs.Bits.{withBit}
-use Rattle.laws.specs.Bytes.{part, splice, putW, bytes, value}
-use Rattle.laws.proofs.Splice.{lt-or-ge, length-splice, part-same, part-other, getD-part, splice-in}
+use Rattle.laws.specs.Bytes.{part, splice, putW, bytes}
+use Rattle.laws.proofs.Splice.{length-splice, part-same, part-other, getD-part, splice-in}
 use Rattle.laws.proofs.Put.{length-part, putW-fits}
-use Rattle.laws.proofs.Value.{value-4, value-bytes, length-bytes, numberAt-fits}
-use Rattle.geometry.specs.TagMemory.{leafOf, byteOf, blockPlace}
+use Rattle.laws.proofs.Value.{length-bytes}
+use Rattle.geometry.specs.TagMemory.{leafOf, byteOf}
 use Rattle.memory.specs.True.{blockAt}
 use Rattle.block.specs.Block.{groupAt, putGroup, bitAt, putBit, allZero}
 use Rattle.block.proofs.Groups.{groupAt-fits, putGroup-fits, groupAt-putGroup-same, groupAt-putGroup-other}
 use Rattle.block.proofs.BitsOf.{putBit-is}
-use Rattle.block.proofs.Zero.{allZero-at, allZero-is, allZero-not}
+use Rattle.block.proofs.Zero.{allZero-at, allZero-is}
 use Rattle.flat.specs.Flat.{Row, put}
 
 -- the row m has block b

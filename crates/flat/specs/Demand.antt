@@ -2,7 +2,7 @@
 use mathlib.Core.Path.{_≡_}
 use mathlib.Core.List.{List, [], _∷_}
 use mathlib.Core.Bool.{Bool, true, false}
-use Prim.Native.Nat.{ℕ, _<_}
+use Prim.Native.Nat.{ℕ, _+_, _<_}
 use lib.Dec.{ltb}
 use lib.ListN.{getD}
 use Rattle.laws.specs.Choice.{both, no}
@@ -10,12 +10,15 @@ use Rattle.laws.specs.Scan.{all}
 use Rattle.geometry.specs.TagMemory.{leafOf, tagOf}
 use Rattle.memory.specs.PlainReading.{plainGroup}
 use Rattle.memory.specs.True.{isTrue}
+use Rattle.tracker.specs.Tracker.{isIdle}
+use Rattle.tracker.specs.Answer.{ok, no as refusal}
 use Rattle.line.specs.Word.{changed}
 use Rattle.line.specs.Find.{lineOf}
 use Rattle.rules.specs.State.{trackerAt}
 use Rattle.rules.specs.Calls.{allIdle}
 use Rattle.rules.specs.Run.{Call, issues, steps, drains, lends, Kept, kept, does, answers, ended}
-use Rattle.flat.specs.Flat.{Flat, Given, flatAnswers, flatEnded}
+use Rattle.flat.specs.Flat.{Flat, Given, flatAnswers, flatEnded, effects, inOrder}
+use Rattle.flat.specs.Moments.{toCome, issuesTo, momentsOf}
 
 -- Whether the leaf of the access that is stepped is in a line: all that an answer needs and the row does not say.
 unfoldable pub found : Kept → Call → Bool
@@ -54,9 +57,19 @@ pub record Flatly (k : Kept) (cs : List Call) : Type 0 where
   pub answered : answers k cs ≡ flatAnswers (flatOf k) (given k cs)
   -- the accesses under way are the flat row's: one has its moment behind it exactly if it is at Finish
   pub under-way : ended k cs .state .trackers ≡ flatEnded (flatOf k) (given k cs) .trackers
+  -- each access issued to a tracker has had one moment, but for one whose moment is to come
+  pub one-moment : (x : ℕ) → momentsOf x (effects (flatOf k) (given k cs)) + toCome (trackerAt (ended k cs .state .trackers) x .phase) ≡ issuesTo x (flatOf k) (given k cs)
+  -- the row is what the accesses make of it, one after the other in the order of their moments
+  pub in-order : flatEnded (flatOf k) (given k cs) .row ≡ inOrder (flatOf k .row) (effects (flatOf k) (given k cs))
   -- at rest, plain reading is the row, for every group
   pub reads : atRest (ended k cs) ≡ true → (g : ℕ) → plainGroup (k .state .n) (ended k cs .memory) g ≡ flatEnded (flatOf k) (given k cs) .row g
   -- and for every tag
   pub tags : atRest (ended k cs) ≡ true → (g j : ℕ) → tagOf (plainGroup (k .state .n) (ended k cs .memory) g) j ≡ tagOf (flatEnded (flatOf k) (given k cs) .row g) j
   -- and the memory is true
   pub is-true : atRest (ended k cs) ≡ true → isTrue (k .state .n) (ended k cs .memory) ≡ true
+  -- so it is after every accepted drain
+  pub drained : does (ended k cs) drains .said ≡ ok → atRest (kept (does (ended k cs) drains)) ≡ true
+  -- no call is refused with 4
+  pub not-broken : (i : ℕ) → getD (answers k cs) i ok ≡ refusal 4 → ⊥
+  -- a step of a busy tracker is never refused
+  pub goes-on : (x c : ℕ) → x < ended k cs .state .t → isIdle (trackerAt (ended k cs .state .trackers) x) ≡ false → does (ended k cs) (steps x) .said ≡ refusal c → ⊥

@@ -1,4 +1,4 @@
--- The flat row: the value of each group, and the accesses under way, with no cache, no lines and no map.
+-- The flat row: the value of each group, and the accesses under way; no lines, no memory, no map.
 -- An access takes effect on the row at one moment, which its steps give: "A write takes effect at its Leaf step, or where it ends 'same'; a read where it ends."
 use mathlib.Core.List.{List, [], _∷_, _++_}
 use mathlib.Core.Bool.{Bool, true, false}
@@ -25,7 +25,7 @@ Row = ℕ → ℕ
 abbrev pub put : Row → ℕ → ℕ → Row
 put row g v h = pick (eqb h g) v (row h)
 
--- leaf k has a tag that is set: one of its 16 groups is not zero
+-- leaf k has a tag: one of its 16 groups is not zero
 unfoldable pub tagged : Row → ℕ → Bool
 tagged row k = no (all (λ j. eqb (row (16 * k + j)) 0) 16)
 
@@ -40,21 +40,25 @@ answer row t = pick (t .write) (pick (eqb (row (t .group)) (t .value)) (same (tu
 abbrev pub changesNothing : Row → Tracker → Bool
 changesNothing row t = implies (t .write) (eqb (row (t .group)) (t .value))
 
--- What one step is to its access. At `ends` and `takes` it has its moment.
+-- What one step is to its access: it waits; it goes on to a phase, its moment to come; it takes effect and ends; it takes effect and goes on to Finish;
+-- it ends, its moment behind it.
 pub data Course : Type 0 where
-  waits : Course  -- it waits
-  goes : Phase → Course  -- it goes on to a phase; its moment is to come
-  ends : Course  -- it takes effect and ends
-  takes : Phase → Course  -- it takes effect and goes on to Finish
-  finishes : Course  -- it ends; its moment is behind it
+  waits : Course
+  goes : Phase → Course
+  ends : Course
+  takes : Phase → Course
+  finishes : Course
 
--- a write that changes its leaf: under a tag before and after it is done at once; else the bit has to be set or cleared
+-- A write that changes its leaf. "All 64 bytes now zero: .. on to Finish (clear). Not all zero, bit was 1: .. end 'done' .. Not all zero, bit was 0: .. on to Finish (set)."
 abbrev pub byTags : (before now : Bool) → Course
 byTags true true = ends
 byTags true false = takes Clear
 byTags false now = takes Set
 
--- The course of a step at each phase. `found`: its leaf is in a line; `held`: another tracker holds its map block.
+-- The course of a step at each phase; an idle tracker has no step. `found`: its leaf is in a line. `held`: another tracker holds its map block.
+-- Probe: "Leaf in a line: a read ends with the group; a write whose group equals v ends 'same'. Otherwise on to Map."
+-- Map: "If another tracker holds this map block: wait .. Bit 0: a read ends with 0; a write of 0 ends 'same'. Otherwise .. on to Leaf." The leaf has a tag exactly under bit 1.
+-- Leaf: a read ends with the group; a write whose "group equal to v: end 'same'", else by the tags of its leaf before and after. Finish: "end 'done'".
 abbrev pub course : Row → (found held : Bool) → Tracker → Phase → Course
 course row found held t Idle = waits
 course row found held t Probe = pick (both found (changesNothing row t)) ends (goes Map)
@@ -86,13 +90,21 @@ trackerBy t ends = idle
 trackerBy t (takes p) = goesTo t p
 trackerBy t finishes = idle
 
--- the access, where the step is its moment
-abbrev pub effectBy : Tracker → Course → List Tracker
-effectBy t waits = []
-effectBy t (goes p) = []
-effectBy t ends = t ∷ []
-effectBy t (takes p) = t ∷ []
-effectBy t finishes = []
+-- the step is its access's moment
+abbrev pub moment : Course → Bool
+moment waits = false
+moment (goes p) = false
+moment ends = true
+moment (takes p) = true
+moment finishes = false
+
+-- an access that takes effect, and the number of its tracker
+pub record Effect : Type 0 where
+  pub who : ℕ
+  pub access : Tracker
+
+abbrev pub effectBy : ℕ → Tracker → Course → List Effect
+effectBy x t c = pick (moment c) (record { who = x; access = t } ∷ []) []
 
 -- The flat machine: n leaves, t trackers, l lines as the limits have them; the row; the accesses.
 pub record Flat : Type 0 where
@@ -123,7 +135,7 @@ pub record Given : Type 0 where
 pub record Reply : Type 0 where
   pub said : Said
   pub flat : Flat
-  pub effect : List Tracker
+  pub effect : List Effect
 
 abbrev pub refuse : ℕ → Flat → Reply
 refuse c f = record { said = Said.no c; flat = f; effect = [] }
@@ -143,12 +155,16 @@ flatStep f found x =
     let t = trackerAt (f .trackers) x in
     let c = courseOf f found x in
     pick (ltb x (f .t))
-    (pick (isIdle t) (refuse 8 f) (record { said = says (f .row) t c; flat = withRow f (rowBy (f .row) t c) x (trackerBy t c); effect = effectBy t c }))
+    (pick (isIdle t) (refuse 8 f) (record { said = says (f .row) t c; flat = withRow f (rowBy (f .row) t c) x (trackerBy t c); effect = effectBy x t c }))
     (refuse 5 f)
+
+-- every access is at rest
+abbrev pub allRest : Flat → Bool
+allRest f = all (λ x. isIdle (trackerAt (f .trackers) x)) (f .t)
 
 -- "drain .. with any busy" 7: accepted exactly if all are at rest
 unfoldable pub flatDrain : Flat → Reply
-flatDrain f = pick (all (λ x. isIdle (trackerAt (f .trackers) x)) (f .t)) (record { said = ok; flat = f; effect = [] }) (refuse 7 f)
+flatDrain f = pick (allRest f) (record { said = ok; flat = f; effect = [] }) (refuse 7 f)
 
 -- one call; "a lent length differs from the rule" 2
 unfoldable pub flatDoes : Flat → Bool → Call → Reply
@@ -166,6 +182,11 @@ unfoldable pub flatEnded : Flat → List Given → Flat
 flatEnded f [] = f
 flatEnded f (c ∷ cs) = flatEnded (flatDoes f (c .found) (c .call) .flat) cs
 
-unfoldable pub effects : Flat → List Given → List Tracker
+unfoldable pub effects : Flat → List Given → List Effect
 effects f [] = []
 effects f (c ∷ cs) = flatDoes f (c .found) (c .call) .effect ++ effects (flatDoes f (c .found) (c .call) .flat) cs
+
+-- the row after accesses that take effect one after the other, each done whole
+unfoldable pub inOrder : Row → List Effect → Row
+inOrder row [] = row
+inOrder row (e ∷ es) = inOrder (after row (e .access)) es

@@ -1,2 +1,4 @@
 pub mod Flat
+pub mod Moments
 pub mod Demand
+pub mod Promised

@@ -1,0 +1,5 @@
+pub mod Pairs
+pub mod Tallies
+pub mod Sheets
+pub mod Zero
+pub mod Examples

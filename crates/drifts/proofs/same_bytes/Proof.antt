@@ -1,0 +1,15 @@
+-- `drifts::same_bytes` meets its contract.
+use Rattle.drifts.specs.Pair.{sameBytes}
+use borrow.Author.Needs.{needs}
+use Rattle.drifts.proofs.same_bytes.Statement.{statement}
+use Rattle.drifts.proofs.same_bytes.Tie as tie
+
+same-from-requires : tie.Need-same-from-requires
+same-from-requires c κs = search needs
+
+returns : tie.Need-returns
+unfolding sameBytes
+returns c = c .same-from .ensures
+
+pub same-bytes-spec : {M : Type 1} → statement M
+same-bytes-spec = tie.close (tie.spec same-from-requires returns)

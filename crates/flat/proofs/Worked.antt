@@ -1,0 +1,91 @@
+-- A run of two trackers with an eviction, computed, is an instance of demand 2: the rules' answers, the flat row's, the moments and the memory at the end.
+use mathlib.Core.Path.{_≡_, refl}
+use mathlib.Core.Bool.{true, false}
+use mathlib.Core.List.{List, [], _∷_}
+use Prim.Native.Nat.{ℕ}
+use native.Mathlib.Omega.{arith}
+use lib.ListN.{replicate}
+use Rattle.laws.specs.Choice.{both, implies, no}
+use Rattle.laws.specs.Bytes.{part, splice, fits, putW, value, bytes, numberAt}
+use Rattle.laws.specs.Scan.{first, all}
+use Rattle.laws.specs.Bits.{bitOf, withBit}
+use Rattle.geometry.specs.TagMemory.{inLimits}
+use Rattle.block.specs.Block.{bitAt, putBit, allZero, blockOr0}
+use Rattle.memory.specs.PlainReading.{leafBit, plainGroup}
+use Rattle.memory.specs.True.{trueAt, isTrue, clearedMap}
+use Rattle.tracker.specs.Answer.{Said, ok, wait, moved, read, done}
+use Rattle.line.specs.Word.{used, blockOf, changed, holder, held, has, word, heldBy, cleaned}
+use Rattle.line.specs.Find.{lineOf, lowestFree, looseFrom, victim, after}
+use Rattle.rules.specs.State.{lengthsRight}
+use Rattle.rules.specs.Whole.{limits, holds, lineWhole, trackerWhole, whole}
+use Rattle.rules.specs.Place.{rowsFit, placeLine, placeHand, writtenBack, placeMemory, bringIn, drained}
+use Rattle.rules.specs.Step.{probe, onMap, map, leafRead, putIn, writeUnder1, writeUnder0, leafWrite, finish, inLine, fit, turnOf}
+use Rattle.rules.specs.Calls.{fresh, issueNo, issue, stepNo, step, allIdle, drainNo, drain}
+use Rattle.rules.specs.Run.{Call, issues, steps, drains, Kept, kept, does, answers, ended}
+use Rattle.flat.specs.Flat.{tagged, someHolds, Effect, flatIssue, flatStep, flatDrain, flatDoes, flatAnswers, flatEnded, effects}
+use Rattle.flat.specs.Demand.{found, given, flatOf, Values32, atRest, Flatly}
+use Rattle.flat.proofs.Demand.{fresh-is-flat}
+
+-- a fresh memory of four leaves over stale bytes, two trackers, three lines
+abbrev begun : Kept
+begun = kept (fresh 4 2 3 (replicate 192 7) (replicate 320 9))
+
+-- A read sees a write that is not yet done; the next write waits for it; a third leaf finds no free line, and the first, changed, is written back;
+-- it is brought in again and read; a leaf is emptied; a drain.
+abbrev calls : List Call
+calls = issues 0 true false 17 10 ∷ issues 1 false true 17 0 ∷ steps 0 ∷ steps 0 ∷ steps 1
+    ∷ issues 1 true false 33 11 ∷ steps 1 ∷ steps 0 ∷ steps 1 ∷ steps 1
+    ∷ issues 0 true true 49 12 ∷ steps 0 ∷ steps 0 ∷ steps 1 ∷ steps 0 ∷ steps 0 ∷ steps 0
+    ∷ issues 1 false false 17 0 ∷ steps 1 ∷ steps 1
+    ∷ issues 0 true false 33 0 ∷ steps 0 ∷ steps 0 ∷ steps 0
+    ∷ drains ∷ []
+
+abbrev said : List Said
+said = ok ∷ ok ∷ moved ∷ moved ∷ read 10 1
+    ∷ ok ∷ wait ∷ done 3 ∷ moved ∷ moved
+    ∷ ok ∷ moved ∷ wait ∷ done 4 ∷ moved ∷ moved ∷ done 5
+    ∷ ok ∷ moved ∷ read 10 2
+    ∷ ok ∷ moved ∷ moved ∷ done 3
+    ∷ ok ∷ []
+
+-- the tracker and the group of each effect
+abbrev groups : List Effect → List ℕ
+groups [] = []
+groups (e ∷ es) = e .who ∷ e .access .group ∷ groups es
+
+-- each value is an unsigned 32-bit number
+values : Values32 calls
+values = search arith depth 60 fits 4000
+
+pub record Worked : Type 0 where
+  pub accepted : fresh 4 2 3 (replicate 192 7) (replicate 320 9) .said ≡ ok
+  pub answered : answers begun calls ≡ said
+  pub flat-answered : flatAnswers (flatOf begun) (given begun calls) ≡ said
+  -- the first write has its moment before the read, and ends after it
+  pub moments : groups (effects (flatOf begun) (given begun calls)) ≡ 0 ∷ 17 ∷ 1 ∷ 17 ∷ 1 ∷ 33 ∷ 0 ∷ 49 ∷ 1 ∷ 17 ∷ 0 ∷ 33 ∷ []
+  -- lines were taken from other blocks: the hand has moved on
+  pub evicted : ended begun calls .state .hand ≡ 2
+  pub rests : atRest (ended begun calls) ≡ true
+  pub reads : plainGroup 4 (ended begun calls .memory) 17 ≡ 10
+  pub reads-emptied : plainGroup 4 (ended begun calls .memory) 33 ≡ 0
+  pub row : flatEnded (flatOf begun) (given begun calls) .row 17 ≡ 10
+  pub row-emptied : flatEnded (flatOf begun) (given begun calls) .row 33 ≡ 0
+
+pub worked : Worked
+unfolding both implies no part splice fits putW value bytes numberAt first all bitOf withBit inLimits bitAt putBit allZero blockOr0 leafBit plainGroup trueAt isTrue clearedMap used blockOf changed holder held has word heldBy cleaned lineOf lowestFree looseFrom victim after lengthsRight limits holds lineWhole trackerWhole whole rowsFit placeLine placeHand writtenBack placeMemory bringIn drained probe onMap map leafRead putIn writeUnder1 writeUnder0 leafWrite finish inLine fit turnOf fresh issueNo issue stepNo step allIdle drainNo drain does answers ended tagged someHolds flatIssue flatStep flatDrain flatDoes flatAnswers flatEnded effects found given atRest
+worked = record {
+  accepted = refl;
+  answered = refl;
+  flat-answered = refl;
+  moments = refl;
+  evicted = refl;
+  rests = refl;
+  reads = refl;
+  reads-emptied = refl;
+  row = refl;
+  row-emptied = refl;
+}
+
+-- and the theorem speaks of it
+pub instance : Flatly begun calls
+instance = fresh-is-flat 4 2 3 (replicate 192 7) (replicate 320 9) (worked .accepted) calls values

@@ -1,0 +1,4 @@
+pub mod Parts
+pub mod Sound
+pub mod Rules
+pub mod Records

@@ -1,0 +1,98 @@
+-- Laws of sound blocks and counts: the ways out of each test, and what a test that holds says.
+use mathlib.Core.Path.{_≡_, sym, _∙_}
+use mathlib.Core.List.{List}
+use mathlib.Core.Bool.{Bool, true, false}
+use Prim.Native.Nat.{ℕ, _+_, _*_, _-_, _≤_, _<_}
+use native.Mathlib.Omega.{arith}
+use lib.ListN.{length}
+use lib.Dec.{eqb, leb}
+use borrow.Author.Tests.{eq-eqb, ne-eqb, eqb-true, leb-true, le-leb, lt-leb}
+use mathlib.Core.Logic.{⊎-elim}
+use Rattle.laws.specs.Choice.{both}
+use Rattle.laws.specs.Scan.{all}
+use Rattle.laws.proofs.Scan.{all-at}
+use Rattle.laws.proofs.Splice.{lt-or-ge}
+use Rattle.laws.proofs.Choice.{both-left, both-right, both-false-left, both-false-right}
+use Rattle.geometry.specs.TagMemory.{inLimits}
+use Rattle.image.specs.Test.{wholeBlocks, imageBlock, numberOf, kindOf, versionOf, leavesOf, countOf, unusedZero, headSound, countRight, blockSound, soundAt, recordCount}
+
+pub both-when : (a b : Bool) → a ≡ true → both a b ≡ b
+unfolding both
+both-when a b e = rw e
+
+-- counts
+pub count-last : (last : Bool) (c : ℕ) → last ≡ true → countRight last c ≡ both (leb 1 c) (leb c 7)
+unfolding countRight
+count-last last c e = rw e
+
+pub count-full : (last : Bool) (c : ℕ) → last ≡ false → countRight last c ≡ eqb c 7
+unfolding countRight
+count-full last c e = rw e
+
+pub count-bounds : (last : Bool) (c : ℕ) → countRight last c ≡ true → (1 ≤ c) × (c ≤ 7)
+unfolding countRight
+count-bounds true c h = (leb-true 1 c (both-left (leb 1 c) (leb c 7) h), leb-true c 7 (both-right (leb 1 c) (leb c 7) h))
+count-bounds false c h = let e : c ≡ 7 = eqb-true c 7 h in (omega arith, omega arith)
+
+-- the head
+module _ (version : ℕ) (b : List ℕ) where
+  pub head-short : (length b ≡ 512 → ⊥) → headSound version b ≡ false
+  unfolding headSound
+  head-short h = both-false-left _ _ (ne-eqb _ _ h)
+
+  pub head-by : length b ≡ 512
+      → headSound version b ≡ both (eqb (numberOf b) 0) (both (eqb (kindOf b) 1) (both (eqb (versionOf b) version) (both (inLimits (leavesOf b)) (unusedZero b 16))))
+  unfolding headSound
+  head-by h = both-when _ _ (eq-eqb _ _ h)
+
+-- a record block
+module _ (last : Bool) (j : ℕ) (b : List ℕ) where
+  pub block-short : (length b ≡ 512 → ⊥) → blockSound last j b ≡ false
+  unfolding blockSound
+  block-short h = both-false-left _ _ (ne-eqb _ _ h)
+
+  pub block-miscounted : countRight last (countOf b) ≡ false → blockSound last j b ≡ false
+  unfolding blockSound
+  block-miscounted h = both-false-right _ _ (both-false-right _ _ (both-false-right _ _ (both-false-left _ _ h)))
+
+  pub block-by : length b ≡ 512 → countRight last (countOf b) ≡ true
+      → blockSound last j b ≡ both (eqb (numberOf b) j) (both (eqb (kindOf b) 2) (unusedZero b (8 + 68 * countOf b)))
+  unfolding blockSound
+  block-by h g = rw (both-when _ _ (eq-eqb (length b) 512 h), both-when _ (unusedZero b (8 + 68 * countOf b)) g)
+
+-- block j of an image
+pub sound-head : (version : ℕ) (image : List ℕ) (j : ℕ) → j ≡ 0 → soundAt version image j ≡ headSound version (imageBlock image j)
+unfolding soundAt
+sound-head version image j e = rw (eq-eqb j 0 e)
+
+pub sound-block : (version : ℕ) (image : List ℕ) (j : ℕ) → (j ≡ 0 → ⊥)
+    → soundAt version image j ≡ blockSound (eqb (j + 1) (wholeBlocks image)) j (imageBlock image j)
+unfolding soundAt
+sound-block version image j h = rw (ne-eqb j 0 h)
+
+-- the number of records
+pub records-none : (image : List ℕ) → wholeBlocks image ≤ 1 → recordCount image ≡ 0
+unfolding recordCount
+records-none image h = rw (le-leb (wholeBlocks image) 1 h)
+
+pub records-by : (image : List ℕ) → 1 < wholeBlocks image
+    → recordCount image ≡ 7 * (wholeBlocks image - 2) + countOf (imageBlock image (wholeBlocks image - 1))
+unfolding recordCount
+records-by image h = rw (lt-leb (wholeBlocks image) 1 h)
+
+-- the count of a sound record block
+pub sound-count : (last : Bool) (j : ℕ) (b : List ℕ) → blockSound last j b ≡ true → countRight last (countOf b) ≡ true
+unfolding blockSound
+sound-count last j b h = both-left _ _ (both-right _ _ (both-right _ _ (both-right _ _ h)))
+
+-- the records of sound blocks stand in them
+pub records-fit : (version : ℕ) (image : List ℕ) → all (soundAt version image) (wholeBlocks image) ≡ true → recordCount image ≤ 7 * (wholeBlocks image - 1)
+records-fit version image h =
+    ⊎-elim
+    (λ (g : wholeBlocks image < 2). rw (records-none image (omega arith)) (omega arith))
+    (λ (g : 2 ≤ wholeBlocks image).
+    let j : ℕ = wholeBlocks image - 1 in
+    let s : soundAt version image j ≡ true = all-at (soundAt version image) (wholeBlocks image) h j (omega arith) in
+    let t : blockSound (eqb (j + 1) (wholeBlocks image)) j (imageBlock image j) ≡ true = sym (sound-block version image j (λ e. absurd (omega arith))) ∙ s in
+    rw (records-by image (omega arith)) (omega (arith, count-bounds (eqb (j + 1) (wholeBlocks image)) (countOf (imageBlock image j)) (sound-count (eqb (j + 1) (wholeBlocks image)) j (imageBlock image j) t))))
+    (lt-or-ge (wholeBlocks image) 2)

@@ -1,0 +1,70 @@
+-- `image::record_good` meets its contract: the record's fields are read, and the tests are put together as in the definition.
+use Prim.Native.Nat.{_+_, _*_}
+use Rattle.laws.proofs.Put.{part-is}
+use Rattle.image.specs.Test.{recordIn}
+use Rattle.image.proofs.Rules.{no-not, good-by}
+use borrow.Author.Needs.{needs}
+use Rattle.image.proofs.record_good.Statement.{statement}
+use Rattle.image.proofs.record_good.Tie as tie
+
+mul-group-at : tie.Need-mul-group-at
+mul-group-at c = search needs
+
+add-group-at : tie.Need-add-group-at
+add-group-at c = search needs
+
+group-at-requires : tie.Need-group-at-requires
+group-at-requires c κs = search needs
+
+mul-at : tie.Need-mul-at
+mul-at c = search needs
+
+add-at : tie.Need-add-at
+add-at c = search needs
+
+add-all-zero : tie.Need-add-all-zero
+add-all-zero c = search needs
+
+sub-all-zero : tie.Need-sub-all-zero
+sub-all-zero c = search needs
+
+part-all-zero-start : tie.Need-part-all-zero-start
+part-all-zero-start c = search needs
+
+part-all-zero-end : tie.Need-part-all-zero-end
+part-all-zero-end c = search needs
+
+all-zero-requires : tie.Need-all-zero-requires
+all-zero-requires c κs = search needs
+
+cast-and : tie.Need-cast-and
+cast-and c = search needs
+
+and-requires : tie.Need-and-requires
+and-requires c κs = search needs
+
+and-requires-2 : tie.Need-and-requires-2
+and-requires-2 c κs = search needs
+
+returns : tie.Need-returns
+returns c = let a = c .before .before .before .before .before .before .args in
+    cc (part-is (a .block .now) (12 + 68 * a .i) 64, no-not (c .before .before .all-zero .result), good-by (a .n) (a .low) (recordIn (a .block .now) (a .i)))
+
+pub record-good-spec : {M : Type 1} → statement M
+record-good-spec =
+    tie.close
+    (tie.spec
+    mul-group-at
+    add-group-at
+    group-at-requires
+    mul-at
+    add-at
+    add-all-zero
+    sub-all-zero
+    part-all-zero-start
+    part-all-zero-end
+    all-zero-requires
+    cast-and
+    and-requires
+    and-requires-2
+    returns)

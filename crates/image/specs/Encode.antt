@@ -1,0 +1,78 @@
+-- 01 "Archive image": the bytes of an image of n leaves and a list of records, and the records of a memory.
+-- The check's modulus M and the version are parameters.
+use mathlib.Core.List.{List, [], _∷_, _++_}
+use Prim.Native.Nat.{ℕ, zero, suc, _+_, _*_, _/_, _-_}
+use lib.ListN.{length, getD, replicate}
+use lib.Dec.{eqb, leb}
+use Rattle.laws.specs.Choice.{pick}
+use Rattle.laws.specs.Bytes.{bytes}
+use Rattle.memory.specs.PlainReading.{leafBit}
+use Rattle.memory.specs.True.{blockAt}
+use Rattle.sums.specs.Check.{checkOf}
+
+-- a record: "the leaf number (4 bytes) and its 64 bytes"
+pub record Record : Type 0 where
+  pub leaf : ℕ
+  pub content : List ℕ
+
+abbrev pub recordBytes : Record → List ℕ
+recordBytes r = bytes 4 (r .leaf) ++ r .content
+
+-- what is read past the end of a list of records
+abbrev pub none : Record
+none = record { leaf = 0; content = [] }
+
+-- the bytes of c records of a list, from record a on
+unfoldable pub recordsBytes : List Record → ℕ → ℕ → List ℕ
+recordsBytes rs a zero = []
+recordsBytes rs a (suc c) = recordsBytes rs a c ++ recordBytes (getD rs (a + c) none)
+
+-- "Bytes 508 to 511: check": 508 bytes with theirs
+abbrev pub sealed : ℕ → List ℕ → List ℕ
+sealed M front = front ++ checkOf M front
+
+-- "Bytes 0 to 3: block number from 0. Bytes 4 to 5: kind. .. Block 0 has kind 1, version 1 in bytes 6 to 7, n in 8 to 11, m (leaves with bit 1) in 12 to 15, zeros after."
+abbrev pub headFront : ℕ → ℕ → ℕ → List ℕ
+headFront version n m = bytes 4 0 ++ (bytes 2 1 ++ (bytes 2 version ++ (bytes 4 n ++ bytes 4 m)))
+
+unfoldable pub headOf : ℕ → ℕ → ℕ → ℕ → List ℕ
+headOf M version n m = sealed M (headFront version n m ++ replicate 492 0)
+
+-- "Each later block has kind 2, its record count in bytes 6 to 7, records from byte 8 .. Unused bytes are zero."
+abbrev pub blockFront : ℕ → ℕ → List ℕ
+blockFront j c = bytes 4 j ++ (bytes 2 2 ++ bytes 2 c)
+
+unfoldable pub blockOf : ℕ → ℕ → List Record → ℕ → ℕ → List ℕ
+blockOf M j rs a c = sealed M ((blockFront j c ++ recordsBytes rs a c) ++ replicate (500 - 68 * c) 0)
+
+-- "every block but the last has 7, the last 1 to 7": of `left` records the next block has
+unfoldable pub next7 : ℕ → ℕ
+next7 left = pick (leb left 7) left 7
+
+-- record blocks 1 to j
+unfoldable pub recordBlocks : ℕ → List Record → ℕ → List ℕ
+recordBlocks M rs zero = []
+recordBlocks M rs (suc j) = recordBlocks M rs j ++ blockOf M (suc j) rs (7 * j) (next7 (length rs - 7 * j))
+
+-- the record blocks of m records: "m = 0 gives one block; m = 7 two; m = 8 three", the head among them
+abbrev pub blocksFor : ℕ → ℕ
+blocksFor m = (m + 6) / 7
+
+unfoldable pub encode : ℕ → ℕ → ℕ → List Record → List ℕ
+encode M version n rs = headOf M version n (length rs) ++ recordBlocks M rs (blocksFor (length rs))
+
+-- the record of leaf k of a memory
+abbrev pub recordOf : List ℕ → ℕ → Record
+recordOf mem k = record { leaf = k; content = blockAt mem k }
+
+-- the records of the leaves with bit 1 below leaf k, rising
+unfoldable pub recordsBelow : ℕ → List ℕ → ℕ → List Record
+recordsBelow n mem zero = []
+recordsBelow n mem (suc k) = recordsBelow n mem k ++ pick (eqb (leafBit n mem k) 1) (recordOf mem k ∷ []) []
+
+abbrev pub recordsOf : ℕ → List ℕ → List Record
+recordsOf n mem = recordsBelow n mem n
+
+-- the image of a memory of n leaves: version 1, both sums modulo 65,535
+abbrev pub imageOf : ℕ → List ℕ → List ℕ
+imageOf n mem = encode 65535 1 n (recordsOf n mem)

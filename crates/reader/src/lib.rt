@@ -1,0 +1,88 @@
+// Reading an image one record at a time: 01 "Archive image", the reader that keeps the lent image together with its place.
+// No public function has a `requires`: an image need not be tested, and a place is any number.
+ghost use mathlib.Core.Path.{_≡_};
+ghost use Prim.Native.Nat.{_+_, _*_, _/_, _%_, _<_};
+ghost use Rattle.image.specs.Calls.{openedImage};
+ghost use Rattle.reader.specs.Read.{readingAt};
+
+// A lent image with the number of its records that were read.
+pub struct Reader<'a> {
+    pub image: &'a [u8],
+    pub place: u64,
+}
+
+// What stands at a place: a record's leaf, where its 64 bytes begin in the image, and the place after it; or, not found, the end.
+pub struct Reading {
+    pub found: bool,
+    pub leaf: u64,
+    pub start: u64,
+    pub next: u64,
+}
+
+// What stands at a place of an image.
+pub fn read_at(image: &[u8], place: u64) -> Reading
+    ensures { λ r. ⌜ r ≡ readingAt (now (image .entry)) place ⌝ }
+{
+    let whole = (image.len() / image::BLOCK) as u64;
+    let number = 1 + place / 7;
+    if whole <= number {
+        return Reading {
+            found: false,
+            leaf: 0,
+            start: 0,
+            next: place,
+        };
+    }
+    let at = image::BLOCK * (number as usize);
+    let slot = (place % 7) as usize;
+    let count = sums::two_at(&image[at..at + image::BLOCK], 6);
+    if count as usize <= slot {
+        return Reading {
+            found: false,
+            leaf: 0,
+            start: 0,
+            next: place,
+        };
+    }
+    let leaf = block::group_at(
+        &image[at..at + image::BLOCK],
+        image::RECORDS + image::RECORD * slot,
+    );
+    let start = at + (image::CONTENT + image::RECORD * slot);
+    Reading {
+        found: true,
+        leaf: leaf as u64,
+        start: start as u64,
+        next: place + 1,
+    }
+}
+
+// The image itself where it is accepted, else an empty part of it.
+pub fn opened<'a>(image: &'a [u8]) -> &'a [u8]
+    ensures { λ r. ⌜ now r ≡ openedImage (now (image .entry)) ⌝ }
+{
+    if image::image_test(image) == 0 {
+        return image;
+    }
+    &image[0..0]
+}
+
+// A reader of an accepted image, at place 0; refused, of an empty one. The image test names the refusal, 10 or 11.
+pub fn open<'a>(image: &'a [u8]) -> Reader<'a>
+    ensures { λ r. ⌜ (now (r .image) ≡ openedImage (now (image .entry))) × (r .place ≡ 0) ⌝ }
+{
+    let part = opened(image);
+    Reader {
+        image: part,
+        place: 0,
+    }
+}
+
+// The next record, and the reader moves on; at the end it stays as it was.
+pub fn advance<'s, 'a>(r: &'s mut Reader<'a>) -> Reading
+    ensures { λ s. ⌜ (s ≡ readingAt (now (now (r .entry) .image)) (now (r .entry) .place)) × (now (r .exit) .image ≡ now (r .entry) .image) × (now (r .exit) .place ≡ s .next) ⌝ }
+{
+    let found = read_at(r.image, r.place);
+    r.place = found.next;
+    found
+}

@@ -1,0 +1,54 @@
+-- Laws of restoring: one record more, the length of what is filled, and the ways out of the call.
+use mathlib.Core.Path.{_≡_, ap, sym, _∙_}
+use mathlib.Core.List.{List}
+use Prim.Native.Nat.{ℕ, _+_, _*_, _<_}
+use native.Mathlib.Numerals.{add-one}
+use native.Mathlib.Omega.{arith}
+use lib.ListN.{length, replicate, length-replicate}
+use borrow.Author.Tests.{eq-eqb, ne-eqb}
+use Rattle.laws.specs.Bytes.{putW}
+use Rattle.laws.proofs.Put.{putW-fits}
+use Rattle.geometry.specs.TagMemory.{memoryLength, blockPlace, mapPlace, mapBitOf}
+use Rattle.block.specs.Block.{blockOr0, putBit}
+use Rattle.block.proofs.Blocks.{blockOr0-fits}
+use Rattle.sums.proofs.Splices.{splice-end}
+use Rattle.image.specs.Encode.{Record}
+use Rattle.image.specs.Test.{leavesIn, recordedIn, recordIn, recordAt, imageTest}
+use Rattle.image.specs.Calls.{putRecord, filled, recordsIn, memoryOf, restoringRefusal, restored}
+use Rattle.image.proofs.Records.{length-recordsTo, recordsTo-at}
+
+pub put-record-law : (n : ℕ) (mem row : List ℕ) (i : ℕ) → length row ≡ 512 → i < 7
+    → putBit (putW 64 mem (blockPlace (recordIn row i .leaf)) (blockOr0 row (12 + 68 * i))) (mapPlace n (recordIn row i .leaf)) (mapBitOf (recordIn row i .leaf)) 1
+    ≡ putRecord n mem (recordIn row i)
+unfolding putRecord
+put-record-law n mem row i h l = rw (blockOr0-fits row (12 + 68 * i) (omega arith))
+
+pub filled-none : (n : ℕ) (mem : List ℕ) (rs : List Record) → length mem ≡ memoryLength n → putW (length mem) mem 0 (replicate (length mem) 0) ≡ filled n rs 0
+unfolding filled
+filled-none n mem rs h =
+    let z : length {A = ℕ} (replicate (length mem) 0) ≡ length mem = length-replicate (length mem) 0 in
+    putW-fits (length mem) mem 0 (replicate (length mem) 0) (omega arith) ∙ splice-end mem 0 (replicate (length mem) 0) (omega arith) ∙ ap (λ (x : ℕ). replicate x 0) h
+
+pub filled-more : (n : ℕ) (image : List ℕ) (p : ℕ) → p < recordedIn image → putRecord n (filled n (recordsIn image) p) (recordAt image p) ≡ filled n (recordsIn image) (p + 1)
+unfolding filled
+filled-more n image p h = rw (add-one p, recordsTo-at (recordAt image) (recordedIn image) p h)
+
+pub filled-all : (n : ℕ) (image : List ℕ) (p : ℕ) → p ≡ recordedIn image → filled n (recordsIn image) p ≡ memoryOf n (recordsIn image)
+filled-all n image p e = ap (filled n (recordsIn image)) (e ∙ sym (length-recordsTo (recordAt image) (recordedIn image)))
+
+-- the ways out
+module _ (image mem : List ℕ) where
+  pub untested : (imageTest 65535 1 image ≡ 0 → ⊥)
+      → (imageTest 65535 1 image ≡ restoringRefusal image (length mem)) × (mem ≡ restored image mem)
+  unfolding restored restoringRefusal
+  untested h = (rw (ne-eqb (imageTest 65535 1 image) 0 h), rw (ne-eqb (imageTest 65535 1 image) 0 h, ne-eqb (imageTest 65535 1 image) 0 h))
+
+  pub unfit : imageTest 65535 1 image ≡ 0 → (length mem ≡ memoryLength (leavesIn image) → ⊥)
+      → (2 ≡ restoringRefusal image (length mem)) × (mem ≡ restored image mem)
+  unfolding restored restoringRefusal
+  unfit t h = let e = ne-eqb (length mem) (memoryLength (leavesIn image)) h in (rw (eq-eqb _ _ t, e), rw (eq-eqb _ _ t, e))
+
+  pub filled-in : imageTest 65535 1 image ≡ 0 → length mem ≡ memoryLength (leavesIn image)
+      → (0 ≡ restoringRefusal image (length mem)) × (memoryOf (leavesIn image) (recordsIn image) ≡ restored image mem)
+  unfolding restored restoringRefusal
+  filled-in t h = let e = eq-eqb (length mem) (memoryLength (leavesIn image)) h in (rw (eq-eqb _ _ t, e), rw (eq-eqb _ _ t, e))

@@ -1,0 +1,63 @@
+-- `restoring::put_record` meets its contract: the leaf, then its bit.
+use Rattle.restoring.proofs.Filling.{put-record-law}
+use borrow.Author.Needs.{needs}
+use Rattle.restoring.proofs.put_record.Statement.{statement}
+use Rattle.restoring.proofs.put_record.Tie as tie
+
+mul-group-at : tie.Need-mul-group-at
+mul-group-at c = search needs
+
+add-group-at : tie.Need-add-group-at
+add-group-at c = search needs
+
+group-at-requires : tie.Need-group-at-requires
+group-at-requires c κs = search needs
+
+mul-read-block : tie.Need-mul-read-block
+mul-read-block c = search needs
+
+add-read-block : tie.Need-add-read-block
+add-read-block c = search needs
+
+read-block-requires : tie.Need-read-block-requires
+read-block-requires c κs = search needs
+
+block-place-requires : tie.Need-block-place-requires
+block-place-requires c κs = search needs
+
+write-block-requires : tie.Need-write-block-requires
+write-block-requires c κs = search needs
+
+map-place-requires : tie.Need-map-place-requires
+map-place-requires c κs = search needs
+
+map-bit-of-requires : tie.Need-map-bit-of-requires
+map-bit-of-requires c κs = search needs
+
+put-bit-requires : tie.Need-put-bit-requires
+put-bit-requires c κs = search needs
+
+same-length : tie.Need-same-length
+same-length c = search needs
+
+returns : tie.Need-returns
+returns c = let s = c .before .before .before .before .before .before .before .before .before .before .before .before .before .before .before .before in
+    cc (put-record-law (s .args .n) (s .args .memory .now) (s .args .row .now) (s .args .i) (s .pre .0) (s .pre .1))
+
+pub put-record-spec : {M : Type 1} → statement M
+put-record-spec =
+    tie.close
+    (tie.spec
+    mul-group-at
+    add-group-at
+    group-at-requires
+    mul-read-block
+    add-read-block
+    read-block-requires
+    block-place-requires
+    write-block-requires
+    map-place-requires
+    map-bit-of-requires
+    put-bit-requires
+    same-length
+    returns)

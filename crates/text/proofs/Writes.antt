@@ -1,0 +1,77 @@
+-- Laws of text put into a list: byte by byte, digit by digit, and one text after another.
+use mathlib.Core.Path.{_≡_, ap, sym, _∙_}
+use mathlib.Core.List.{List, [], _∷_, _++_, append-assoc}
+use Prim.Native.Nat.{ℕ, suc, _+_, _-_, _/_, _%_, _^_, _≤_, _<_}
+use native.Mathlib.Nat.{add-zero}
+use native.Mathlib.Numerals.{add-one}
+use native.Mathlib.Omega.{arith}
+use lib.ListN.{length, take, drop, getD, set, length-append, length-take, take-append-drop}
+use lib.Seq.{take-suc, set-at, append-snoc, length-take-le, take-at, drop-append-add, drop-drop, take-length, paste, paste-zero, paste-suc}
+use Rattle.laws.specs.Bytes.{splice}
+use Rattle.text.specs.Text.{digitText, digits}
+use Rattle.text.proofs.Numbers.{length-digits, no-digits, digit-more}
+
+pub splice-none : (m : List ℕ) (a : ℕ) → splice m a [] ≡ m
+unfolding splice
+splice-none m a = rw (add-zero a) (take-append-drop a m)
+
+-- a byte before those that are there
+pub splice-cons : (m : List ℕ) (p d : ℕ) (ds : List ℕ) → suc p + length ds ≤ length m → set (splice m (suc p) ds) p d ≡ splice m p (d ∷ ds)
+unfolding splice
+splice-cons m p d ds h =
+    let l : p < length m = omega arith in
+    let n : p + suc (length ds) ≡ suc p + length ds = omega arith in
+    rw (take-suc m p 0 l, n, append-snoc (take p m) (getD m p 0) (ds ++ drop (suc p + length ds) m))
+    (set-at (take p m) (getD m p 0) (ds ++ drop (suc p + length ds) m) d p (length-take-le p m (omega arith)))
+
+-- a text and another after it
+pub splice-then : (m : List ℕ) (a : ℕ) (b c : List ℕ) → a + length b ≤ length m → splice (splice m a b) (a + length b) c ≡ splice m a (b ++ c)
+unfolding splice
+splice-then m a b c h =
+    let lp : length (take a m ++ b) ≡ a + length b = simp (length-append, length-take) (omega arith) in
+    let n : a + length (b ++ c) ≡ a + length b + length c = simp length-append (omega arith) in
+    let x : take a m ++ (b ++ drop (a + length b) m) ≡ (take a m ++ b) ++ drop (a + length b) m = sym (append-assoc (take a m) b (drop (a + length b) m)) in
+    let t : take (a + length b) ((take a m ++ b) ++ drop (a + length b) m) ≡ take a m ++ b = take-at (take a m ++ b) (drop (a + length b) m) (a + length b) lp in
+    let d : drop (a + length b + length c) ((take a m ++ b) ++ drop (a + length b) m) ≡ drop (a + length b + length c) m =
+    ap (λ (k : ℕ). drop (k + length c) ((take a m ++ b) ++ drop (a + length b) m)) (sym lp)
+    ∙ drop-append-add (take a m ++ b) (drop (a + length b) m) (length c)
+    ∙ drop-drop (length c) (a + length b) m in
+    rw (x, t, d, n) (simp append-assoc)
+
+-- the same of what calls give: b is put from a up to p, then c
+module _ (m : List ℕ) (a : ℕ) (b c : List ℕ) where
+  pub then-put : {m1 m2 : List ℕ} {p : ℕ} → a + length b ≤ length m → m1 ≡ splice m a b → p ≡ a + length b → m2 ≡ splice m1 p c → m2 ≡ splice m a (b ++ c)
+  then-put h e f g = g ∙ rw (e, f) (splice-then m a b c h)
+
+  pub then-end : {p q : ℕ} → p ≡ a + length b → q ≡ p + length c → q ≡ a + length (b ++ c)
+  then-end f g = simp length-append (omega arith)
+
+-- a copy byte by byte
+pub copy-none : (m : List ℕ) (a : ℕ) (s : List ℕ) → m ≡ paste m a s 0
+copy-none m a s = paste-zero m a s
+
+pub copy-more : (m : List ℕ) (a : ℕ) (s : List ℕ) (i : ℕ) → a + i < length m → i < length s → set (paste m a s i) (a + i) (getD s i 0) ≡ paste m a s (i + 1)
+copy-more m a s i h l = rw (add-one i) (paste-suc m a s i 0 h l)
+
+pub copy-all : (m : List ℕ) (a : ℕ) (s : List ℕ) (i : ℕ) → i ≡ length s → paste m a s i ≡ splice m a s
+unfolding splice
+copy-all m a s i e = rw (e, take-length) (append-assoc (take a m) s (drop (a + length s) m))
+
+-- digits from the last to the first
+module _ (m : List ℕ) (at base w v left : ℕ) where
+  pub digits-none : left ≡ w → m ≡ splice m (at + left) (digits base (w - left) v)
+  digits-none e = rw (no-digits base v (w - left) (omega arith)) (sym (splice-none m (at + left)))
+
+  pub digits-more : (rest d : ℕ) → 0 < left → left ≤ w → at + w ≤ length m → rest ≡ v / base ^ (w - left) → d ≡ digitText (rest % base)
+      → set (splice m (at + left) (digits base (w - left) v)) (at + (left - 1)) d ≡ splice m (at + (left - 1)) (digits base (w - (left - 1)) v)
+  digits-more rest d z l h e f =
+      let p : at + left ≡ suc (at + (left - 1)) = omega arith in
+      let j : w - (left - 1) ≡ suc (w - left) = omega arith in
+      let g : suc (at + (left - 1)) + length (digits base (w - left) v) ≤ length m = omega (arith, length-digits base (w - left) v) in
+      rw (p, j, f, ← digit-more base v (w - left) rest e) (splice-cons m (at + (left - 1)) (digitText (rest % base)) (digits base (w - left) v) g)
+
+  pub digits-all : left ≡ 0 → splice m (at + left) (digits base (w - left) v) ≡ splice m at (digits base w v)
+  digits-all e =
+      let p : at + left ≡ at = omega arith in
+      let j : w - left ≡ w = omega arith in
+      rw (p, j)

@@ -1,0 +1,65 @@
+-- 01 "The replay program": the text of an answer, byte by byte.
+use mathlib.Core.List.{List, [], _∷_, _++_}
+use mathlib.Core.Bool.{Bool, true, false}
+use Prim.Native.Nat.{ℕ, zero, suc, _+_, _/_, _%_, _^_}
+use lib.Dec.{ltb}
+use Rattle.laws.specs.Choice.{pick}
+use Rattle.laws.specs.Bytes.{fits}
+use Rattle.tracker.specs.Answer.{Said, ok, wait, moved, read, done, same, no}
+
+-- a digit's byte, `0` to `9` and `a` to `f`
+unfoldable pub digitText : ℕ → ℕ
+digitText d = pick (ltb d 10) (d + 48) (d + 87)
+
+-- the w digits of v, the highest first
+unfoldable pub digits : (base w v : ℕ) → List ℕ
+digits base zero v = []
+digits base (suc j) v = digitText (v / base ^ j % base) ∷ digits base j v
+
+-- how many decimal digits v has: 1 below 10, else one more than v / 10 has
+unfoldable pub placesBy : (small : Bool) (other : ℕ → ℕ) (v : ℕ) → ℕ
+placesBy true other v = 1
+placesBy false other v = suc (other (v / 10))
+
+-- with so many divisions
+unfoldable pub placesIn : (times v : ℕ) → ℕ
+placesIn zero v = 1
+placesIn (suc times) v = placesBy (ltb v 10) (placesIn times) v
+
+-- v of them are enough
+unfoldable pub places : ℕ → ℕ
+places v = placesIn v v
+
+-- a number in decimal
+unfoldable pub decimal : ℕ → List ℕ
+decimal v = digits 10 (places v) v
+
+-- "V is 8 lower-case hex digits"
+unfoldable pub hex : ℕ → List ℕ
+hex v = digits 16 8 v
+
+-- ` turns K`
+unfoldable pub turns : ℕ → List ℕ
+turns k = 32 ∷ 116 ∷ 117 ∷ 114 ∷ 110 ∷ 115 ∷ 32 ∷ decimal k
+
+-- "`ok`, `wait`, `moved`, `read V turns K`, `done turns K`, `same turns K` or `no C`"
+unfoldable pub saidText : Said → List ℕ
+saidText ok = 111 ∷ 107 ∷ []
+saidText wait = 119 ∷ 97 ∷ 105 ∷ 116 ∷ []
+saidText moved = 109 ∷ 111 ∷ 118 ∷ 101 ∷ 100 ∷ []
+saidText (read v k) = 114 ∷ 101 ∷ 97 ∷ 100 ∷ 32 ∷ (hex v ++ turns k)
+saidText (done k) = 100 ∷ 111 ∷ 110 ∷ 101 ∷ turns k
+saidText (same k) = 115 ∷ 97 ∷ 109 ∷ 101 ∷ turns k
+saidText (no c) = 110 ∷ 111 ∷ 32 ∷ decimal c
+
+-- "Output: line number, space, then" what is said, and a newline
+unfoldable pub lineText : ℕ → Said → List ℕ
+lineText k said = decimal k ++ (32 ∷ (saidText said ++ (10 ∷ [])))
+
+-- the bytes that are kept free for a line; none is longer
+abbrev pub most : ℕ
+most = 64
+
+-- what is put into `out` from `at`: the line where there is room for any, else nothing
+unfoldable pub lineIn : List ℕ → ℕ → ℕ → Said → List ℕ
+lineIn out at k said = pick (fits out at most) (lineText k said) []

@@ -1,0 +1,192 @@
+-- Laws of the tests of a whole state: what each comes to where a part of it is known, and that it is the same over any hand.
+use mathlib.Core.Path.{_≡_, refl}
+use mathlib.Core.List.{List}
+use mathlib.Core.Bool.{Bool, true, false}
+use mathlib.Core.Logic.{⊎-elim}
+use Prim.Native.Nat.{ℕ, _+_, _-_, _*_, _≤_, _<_, min}
+use native.Mathlib.Omega.{arith}
+use lib.Dec.{eqb, ltb, leb}
+use lib.ListN.{length, getD, List·getD-eq-default}
+use borrow.Author.Tests.{lt-ltb, le-ltb, le-leb, lt-leb, leb-true}
+use Rattle.laws.specs.Choice.{both, implies, no}
+use Rattle.laws.specs.Scan.{all}
+use Rattle.laws.proofs.Choice.{both-left, both-right, both-false-left, both-false-right, implied}
+use Rattle.laws.proofs.Splice.{lt-or-ge}
+use Rattle.laws.proofs.Scan.{all-is, all-at, all-more, all-fails}
+use Rattle.geometry.specs.TagMemory.{inLimits, blocks}
+use Rattle.tracker.specs.declared.Phase.{Phase}
+use Rattle.tracker.specs.declared.Phase.the-variants.{Idle, Probe, Map, Leaf, Set, Clear}
+use Rattle.tracker.specs.declared.Tracker.{Tracker}
+use Rattle.tracker.specs.Tracker.{idle, isIdle, isIdleAt, holdsAt}
+use Rattle.line.specs.Word.{used, blockOf, holder, held}
+use Rattle.line.specs.Find.{lineOf}
+use Rattle.line.proofs.Words.{used-is, free-used}
+use Rattle.rules.specs.State.{State, trackerAt}
+use Rattle.rules.specs.Whole.{limits, mapBlock, holds, lineWhole, phaseWhole, trackerWhole, whole}
+use Rattle.whole.specs.Parts.{stateOf, holderWhole, heldByIt}
+
+both-yes : (a : Bool) → both a true ≡ a
+unfolding both
+both-yes true = refl
+both-yes false = refl
+
+-- limits
+module _ (n t l : ℕ) (h : limits n t l ≡ true) where
+  pub limits-t : t ≤ 8
+  unfolding limits
+  limits-t = leb-true t 8 (both-right (leb 1 t) _ (both-left _ _ (both-right (inLimits n) _ h)))
+
+  pub limits-l : l ≤ 64
+  unfolding limits
+  limits-l = leb-true l 64 (both-right (leb (t + 1) l) _ (both-right (both (leb 1 t) (leb t 8)) _ (both-right (inLimits n) _ h)))
+
+  pub limits-more : t + 1 ≤ l
+  unfolding limits
+  limits-more = leb-true (t + 1) l (both-left _ _ (both-right (both (leb 1 t) (leb t 8)) _ (both-right (inLimits n) _ h)))
+
+  pub limits-n : n ≤ 262144
+  unfolding limits inLimits
+  limits-n = leb-true n 262144 (both-right (leb 1 n) _ (both-left _ _ h))
+
+-- the holder of a line
+module _ (n t w : ℕ) (ts : List Tracker) where
+  pub holder-none : holder w ≡ 0 → holderWhole n t ts w ≡ true
+  unfolding holderWhole implies held
+  holder-none e = rw e
+
+  pub holder-past : 0 < holder w → t < holder w → holderWhole n t ts w ≡ false
+  unfolding holderWhole implies held both
+  holder-past p q = rw (lt-ltb 0 (holder w) p, lt-leb (holder w) t q)
+
+  pub holder-is : 0 < holder w → holder w ≤ t → holderWhole n t ts w ≡ holds n (trackerAt ts (holder w - 1)) (blockOf w)
+  unfolding holderWhole implies held both
+  holder-is p q = rw (lt-ltb 0 (holder w) p, le-leb (holder w) t q)
+
+-- a line
+module _ (n t l : ℕ) (lines : List ℕ) (ts : List Tracker) (i : ℕ) where
+  pub line-free : getD lines i 0 ≡ 0 → lineWhole (stateOf n t l 0 lines ts) i ≡ true
+  unfolding lineWhole implies
+  line-free e = rw (e, free-used)
+
+  pub line-none : 0 < getD lines i 0 → blocks n ≤ blockOf (getD lines i 0) → lineWhole (stateOf n t l 0 lines ts) i ≡ false
+  unfolding lineWhole implies both
+  line-none p q = rw (used-is (getD lines i 0) p, le-ltb (blockOf (getD lines i 0)) (blocks n) q)
+
+  pub line-used : 0 < getD lines i 0 → blockOf (getD lines i 0) < blocks n
+      → lineWhole (stateOf n t l 0 lines ts) i ≡ both (eqb (lineOf lines l (blockOf (getD lines i 0))) i) (holderWhole n t ts (getD lines i 0))
+  unfolding lineWhole implies both holderWhole
+  line-used p q = rw (used-is (getD lines i 0) p, lt-ltb (blockOf (getD lines i 0)) (blocks n) q)
+
+-- a tracker that holds its map block
+module _ (n l : ℕ) (lines : List ℕ) (g x i : ℕ) (e : i ≡ lineOf lines l (mapBlock n g)) where
+  pub not-lined : l ≤ i → heldByIt n l lines g x ≡ false
+  unfolding heldByIt both
+  not-lined h = rw (← e, le-ltb i l h)
+
+  pub lined : i < l → heldByIt n l lines g x ≡ eqb (holder (getD lines i 0)) (x + 1)
+  unfolding heldByIt both
+  lined h = rw (← e, lt-ltb i l h)
+
+idle-at : (p : Phase) → isIdleAt p ≡ true → p ≡ Idle
+idle-at Idle h = refl
+idle-at Probe h = let z : _≡_ {A = ℕ} 0 1 = cc in absurd (omega arith)
+idle-at Map h = let z : _≡_ {A = ℕ} 0 1 = cc in absurd (omega arith)
+idle-at Leaf h = let z : _≡_ {A = ℕ} 0 1 = cc in absurd (omega arith)
+idle-at Set h = let z : _≡_ {A = ℕ} 0 1 = cc in absurd (omega arith)
+idle-at Clear h = let z : _≡_ {A = ℕ} 0 1 = cc in absurd (omega arith)
+
+-- a tracker
+module _ (n l : ℕ) (lines : List ℕ) (ts : List Tracker) (x : ℕ) where
+  pub tracker-idle : isIdle (trackerAt ts x) ≡ true → trackerWhole (stateOf n 0 l 0 lines ts) x ≡ true
+  unfolding trackerWhole implies both no
+  tracker-idle h = rw (idle-at (trackerAt ts x .phase) h)
+
+  pub tracker-far : isIdle (trackerAt ts x) ≡ false → 16 * n ≤ trackerAt ts x .group → trackerWhole (stateOf n 0 l 0 lines ts) x ≡ false
+  unfolding trackerWhole implies both no
+  tracker-far h q = rw (h, le-ltb (trackerAt ts x .group) (16 * n) q)
+
+  pub tracker-holds : isIdle (trackerAt ts x) ≡ false → trackerAt ts x .group < 16 * n → holdsAt (trackerAt ts x .phase) ≡ true
+      → trackerWhole (stateOf n 0 l 0 lines ts) x
+      ≡ both (phaseWhole (trackerAt ts x .write) (trackerAt ts x .bottom) (trackerAt ts x .phase)) (heldByIt n l lines (trackerAt ts x .group) x)
+  unfolding trackerWhole implies both no heldByIt
+  tracker-holds h q k = rw (h, lt-ltb (trackerAt ts x .group) (16 * n) q, k)
+
+  pub tracker-loose : isIdle (trackerAt ts x) ≡ false → trackerAt ts x .group < 16 * n → holdsAt (trackerAt ts x .phase) ≡ false
+      → trackerWhole (stateOf n 0 l 0 lines ts) x ≡ phaseWhole (trackerAt ts x .write) (trackerAt ts x .bottom) (trackerAt ts x .phase)
+  unfolding trackerWhole implies both no
+  tracker-loose h q k = rw (h, lt-ltb (trackerAt ts x .group) (16 * n) q, k) (both-yes _)
+
+no-used : no (used 0) ≡ true
+unfolding no used
+no-used = refl
+
+-- lines l and up
+module _ (l : ℕ) (lines : List ℕ) where
+  pub rest-start : all (λ i. implies (leb l i) (no (used (getD lines i 0)))) l ≡ true
+  unfolding implies
+  rest-start = all-is _ l (λ k h. rw (lt-leb l k h))
+
+  pub rest-more : (i : ℕ) → all (λ i. implies (leb l i) (no (used (getD lines i 0)))) i ≡ true → getD lines i 0 ≡ 0
+      → all (λ i. implies (leb l i) (no (used (getD lines i 0)))) (i + 1) ≡ true
+  rest-more i e z = all-more _ i e (implied (leb l i) _ (λ h. rw z (no-used)))
+
+  pub rest-fails : (i : ℕ) → l ≤ i → i < length lines → 0 < getD lines i 0
+      → all (λ i. implies (leb l i) (no (used (getD lines i 0)))) (length lines) ≡ false
+  unfolding implies no
+  rest-fails i h q p = all-fails _ (length lines) i q (rw (le-leb l i h, used-is (getD lines i 0) p))
+
+-- trackers t and up
+module _ (t : ℕ) (ts : List Tracker) where
+  pub idle-start : all (λ x. implies (leb t x) (isIdle (trackerAt ts x))) t ≡ true
+  unfolding implies
+  idle-start = all-is _ t (λ k h. rw (lt-leb t k h))
+
+  pub idle-more : (x : ℕ) → all (λ x. implies (leb t x) (isIdle (trackerAt ts x))) x ≡ true → isIdle (trackerAt ts x) ≡ true
+      → all (λ x. implies (leb t x) (isIdle (trackerAt ts x))) (x + 1) ≡ true
+  idle-more x e h = all-more _ x e (implied (leb t x) _ (λ k. h))
+
+  pub idle-fails : (x : ℕ) → t ≤ x → x < 8 → isIdle (trackerAt ts x) ≡ false → all (λ x. implies (leb t x) (isIdle (trackerAt ts x))) 8 ≡ false
+  unfolding implies
+  idle-fails x h q f = all-fails _ 8 x q (rw (le-leb t x h) f)
+
+  -- those past the table are idle
+  pub idle-past : (e : ℕ) → length ts ≡ 8 → e ≡ min t 8 → all (λ x. isIdle (trackerAt ts x)) e ≡ true → all (λ x. isIdle (trackerAt ts x)) t ≡ true
+  idle-past e k m a =
+      all-is _ t
+      (λ x h. ⊎-elim (λ (q : x < e). all-at _ e a x q) (λ (q : e ≤ x). rw (past x (omega arith)) refl) (lt-or-ge x e))
+    where
+      past : (x : ℕ) → length ts ≤ x → trackerAt ts x ≡ idle
+      past x q = List·getD-eq-default ts idle q
+
+-- the whole test, once the limits are known
+module _ (n t l hand : ℕ) (lines : List ℕ) (ts : List Tracker) where
+  pub whole-limits : limits n t l ≡ false → whole (stateOf n t l hand lines ts) ≡ false
+  unfolding whole both
+  whole-limits h = rw h
+
+  pub whole-short : length lines < l → whole (stateOf n t l hand lines ts) ≡ false
+  unfolding whole
+  whole-short h = both-false-right _ _ (both-false-left _ _ (both-false-left _ _ (lt-leb l (length lines) h)))
+
+  pub whole-is : limits n t l ≡ true → l ≤ length lines → length ts ≡ 8
+      → whole (stateOf n t l hand lines ts)
+      ≡ both (ltb hand l)
+      (both (both (all (λ i. implies (leb l i) (no (used (getD lines i 0)))) (length lines)) (all (λ x. implies (leb t x) (isIdle (trackerAt ts x))) 8))
+      (both (all (lineWhole (stateOf n t l 0 lines ts)) l) (all (trackerWhole (stateOf n 0 l 0 lines ts)) t)))
+  unfolding whole both lineWhole trackerWhole
+  whole-is h q e = rw (h, le-leb l (length lines) q, e, le-leb t 8 (limits-t n t l h))
+
+-- a whole state is in the limits
+module _ (s : State) (h : whole s ≡ true) where
+  in-limits : limits (s .n) (s .t) (s .l) ≡ true
+  unfolding whole
+  in-limits = both-left _ (ltb (s .hand) (s .l)) (both-left _ _ h)
+
+  pub whole-n : s .n ≤ 262144
+  whole-n = limits-n (s .n) (s .t) (s .l) in-limits
+
+  pub whole-t : s .t ≤ 8
+  whole-t = limits-t (s .n) (s .t) (s .l) in-limits
+
+  pub whole-l : s .l ≤ 64
+  whole-l = limits-l (s .n) (s .t) (s .l) in-limits

@@ -1,0 +1,56 @@
+-- `held_by_it` meets its contract: by whether the block has a line.
+use borrow.Author.Needs.{needs}
+use mathlib.Core.Path.{refl, sym, _∙_}
+use native.Mathlib.Omega.{arith}
+use Rattle.whole.proofs.Tests.{not-lined, lined}
+use Rattle.whole.proofs.held_by_it.Statement.{statement}
+use Rattle.whole.proofs.held_by_it.Tie as tie
+
+leaf-of-requires : tie.Need-leaf-of-requires
+leaf-of-requires c κs = search needs
+
+map-number-requires : tie.Need-map-number-requires
+map-number-requires c κs = search needs
+
+cast-b : tie.Need-cast-b
+cast-b c = search needs
+
+line-of-requires : tie.Need-line-of-requires
+line-of-requires c κs = search needs
+
+returns : tie.Need-returns
+returns c = sym (not-lined (c .before .before .before .before .before .args .n) (c .before .before .before .before .before .args .l) (c .before .before .before .before .before .args .lines .now) (c .before .before .before .before .before .args .g) (c .before .before .before .before .before .args .x) (c .before .line-of .result) (c .before .line-of .ensures ∙ rw (c .before .before .map-number .ensures, c .before .before .before .leaf-of .ensures) refl) (omega arith))
+
+mul-holder : tie.Need-mul-holder
+mul-holder c = search needs
+
+shared-slice-read-holder : tie.Need-shared-slice-read-holder
+shared-slice-read-holder c = search needs
+
+holder-requires : tie.Need-holder-requires
+holder-requires c κs = search needs
+
+cast-result : tie.Need-cast-result
+cast-result c = search needs
+
+add-result : tie.Need-add-result
+add-result c = search needs
+
+returns-2 : tie.Need-returns-2
+returns-2 c = rw (c .holder .ensures) (sym (lined (c .before .before .before .before .before .before .before .args .n) (c .before .before .before .before .before .before .before .args .l) (c .before .before .before .before .before .before .before .args .lines .now) (c .before .before .before .before .before .before .before .args .g) (c .before .before .before .before .before .before .before .args .x) (c .before .before .before .line-of .result) (c .before .before .before .line-of .ensures ∙ rw (c .before .before .before .before .map-number .ensures, c .before .before .before .before .before .leaf-of .ensures) refl) (omega arith)))
+
+pub held-by-it-spec : {M : Type 1} → statement M
+held-by-it-spec =
+    tie.close
+    (tie.spec
+    leaf-of-requires
+    map-number-requires
+    cast-b
+    line-of-requires
+    returns
+    mul-holder
+    shared-slice-read-holder
+    holder-requires
+    cast-result
+    add-result
+    returns-2)

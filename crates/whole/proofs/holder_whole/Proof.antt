@@ -1,0 +1,52 @@
+-- `holder_whole` meets its contract: by whether the line names a holder, and one of the t trackers.
+use borrow.Author.Needs.{needs}
+use mathlib.Core.Path.{refl, sym}
+use native.Mathlib.Omega.{arith}
+use Rattle.whole.proofs.Tests.{holder-none, holder-past, holder-is}
+use Rattle.whole.proofs.holder_whole.Statement.{statement}
+use Rattle.whole.proofs.holder_whole.Tie as tie
+
+holder-requires : tie.Need-holder-requires
+holder-requires c κs = search needs
+
+returns : tie.Need-returns
+returns c = sym (holder-none (c .before .before .args .n) (c .before .before .args .t) (c .before .before .args .w) (c .before .before .args .t4) (omega arith))
+
+returns-2 : tie.Need-returns-2
+returns-2 c = sym (holder-past (c .before .before .before .args .n) (c .before .before .before .args .t) (c .before .before .before .args .w) (c .before .before .before .args .t4) (omega arith) (omega arith))
+
+sub-x : tie.Need-sub-x
+sub-x c = search needs
+
+cast-x : tie.Need-cast-x
+cast-x c = search needs
+
+mul-tracker : tie.Need-mul-tracker
+mul-tracker c = search needs
+
+array-copy-out-tracker : tie.Need-array-copy-out-tracker
+array-copy-out-tracker c = search needs
+
+block-of-requires : tie.Need-block-of-requires
+block-of-requires c κs = search needs
+
+holds-requires : tie.Need-holds-requires
+holds-requires c κs = search needs
+
+returns-3 : tie.Need-returns-3
+returns-3 c = rw (c .holds .ensures, c .before .block-of .ensures, c .before .before .before .before .before .holder .ensures, holder-is (c .before .before .before .before .before .before .args .n) (c .before .before .before .before .before .before .args .t) (c .before .before .before .before .before .before .args .w) (c .before .before .before .before .before .before .args .t4) (omega arith) (omega arith)) refl
+
+pub holder-whole-spec : {M : Type 1} → statement M
+holder-whole-spec =
+    tie.close
+    (tie.spec
+    holder-requires
+    returns
+    returns-2
+    sub-x
+    cast-x
+    mul-tracker
+    array-copy-out-tracker
+    block-of-requires
+    holds-requires
+    returns-3)

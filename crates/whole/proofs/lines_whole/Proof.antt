@@ -1,0 +1,52 @@
+-- `lines_whole` meets its contract. The invariant: each of the first i lines is whole.
+use mathlib.Core.Path.{_≡_, sym, _∙_}
+use Prim.Native.Nat.{_≤_, _-_}
+use mathlib.Core.Bool.{true}
+use native.Mathlib.Omega.{arith}
+use Rattle.laws.specs.Scan.{all}
+use Rattle.laws.proofs.Scan.{all-zero, all-more, all-fails}
+use Rattle.rules.specs.Whole.{lineWhole}
+use Rattle.whole.specs.Parts.{stateOf}
+use Rattle.whole.proofs.lines_whole.Statement.{statement}
+use Rattle.whole.proofs.lines_whole.Tie as tie
+
+abbrev Inv-loop : tie.InvT-loop
+Inv-loop n t l lines trackers i₀ i = (i ≤ l) × (all (lineWhole (stateOf n t l 0 lines trackers)) i ≡ true)
+
+abbrev μ-loop : tie.MeasureT-loop
+μ-loop n t l lines trackers i₀ i = l - i
+
+loop-holds : tie.Need-loop-holds Inv-loop μ-loop
+loop-holds c = (omega arith, all-zero _)
+
+line-whole-requires : tie.Need-line-whole-requires Inv-loop μ-loop
+line-whole-requires c κs = omega arith
+
+add-i : tie.Need-add-i Inv-loop μ-loop
+add-i c = omega arith
+
+loop-less : tie.Need-loop-less Inv-loop μ-loop
+loop-less c = omega arith
+
+loop-again : tie.Need-loop-again Inv-loop μ-loop
+loop-again c = (omega arith, all-more _ (c .before .before .before .loop .i) (c .before .before .before .loop .inv .1) (sym (c .before .line-whole .ensures) ∙ c .if1 .taken))
+
+returns : tie.Need-returns Inv-loop μ-loop
+returns c = sym (all-fails _ (c .before .before .before .before .before .args .l) (c .before .before .before .loop .i) (omega arith) (sym (c .before .line-whole .ensures) ∙ c .if1 .left))
+
+returns-2 : tie.Need-returns-2 Inv-loop μ-loop
+returns-2 c = let e : c .before .loop .i ≡ c .before .before .before .args .l = omega arith in sym (rw e at (c .before .loop .inv .1))
+
+pub lines-whole-spec : {M : Type 1} → statement M
+lines-whole-spec =
+    tie.close
+    (tie.spec
+    Inv-loop
+    μ-loop
+    loop-holds
+    line-whole-requires
+    add-i
+    loop-less
+    loop-again
+    returns
+    returns-2)

@@ -1,0 +1,68 @@
+-- `tracker_whole` meets its contract: by whether the tracker is idle, its group exists, and it holds its map block.
+use borrow.Author.Needs.{needs}
+use mathlib.Core.Path.{sym, _∙_}
+use native.Mathlib.Omega.{arith}
+use Rattle.whole.proofs.Tests.{tracker-idle, tracker-far, tracker-holds, tracker-loose}
+use Rattle.whole.proofs.tracker_whole.Statement.{statement}
+use Rattle.whole.proofs.tracker_whole.Tie as tie
+
+mul-t : tie.Need-mul-t
+mul-t c = search needs
+
+array-copy-out-t : tie.Need-array-copy-out-t
+array-copy-out-t c = search needs
+
+is-idle-requires : tie.Need-is-idle-requires
+is-idle-requires c κs = search needs
+
+returns : tie.Need-returns
+returns c = sym (tracker-idle (c .before .before .before .before .args .n) (c .before .before .before .before .args .l) (c .before .before .before .before .args .lines .now) (c .before .before .before .before .args .t4) (c .before .before .before .before .args .x) (sym (c .before .is-idle .ensures) ∙ c .if1 .taken))
+
+mul-if2 : tie.Need-mul-if2
+mul-if2 c = search needs
+
+cast-if2 : tie.Need-cast-if2
+cast-if2 c = search needs
+
+returns-2 : tie.Need-returns-2
+returns-2 c = sym (tracker-far (c .before .before .before .before .before .before .args .n) (c .before .before .before .before .before .before .args .l) (c .before .before .before .before .before .before .args .lines .now) (c .before .before .before .before .before .before .args .t4) (c .before .before .before .before .before .before .args .x) (sym (c .before .before .before .is-idle .ensures) ∙ c .before .before .if1 .left) (omega arith))
+
+holds-at-requires : tie.Need-holds-at-requires
+holds-at-requires c κs = search needs
+
+phase-whole-requires : tie.Need-phase-whole-requires
+phase-whole-requires c κs = search needs
+
+held-by-it-requires : tie.Need-held-by-it-requires
+held-by-it-requires c κs = search needs
+
+both-requires : tie.Need-both-requires
+both-requires c κs = search needs
+
+phase-whole-requires-2 : tie.Need-phase-whole-requires-2
+phase-whole-requires-2 c κs = search needs
+
+returns-3 : tie.Need-returns-3
+returns-3 c = rw (c .both .ensures, c .before .held-by-it .ensures, c .before .before .phase-whole .ensures) (sym (tracker-holds (c .before .before .before .before .before .before .before .before .before .before .before .args .n) (c .before .before .before .before .before .before .before .before .before .before .before .args .l) (c .before .before .before .before .before .before .before .before .before .before .before .args .lines .now) (c .before .before .before .before .before .before .before .before .before .before .before .args .t4) (c .before .before .before .before .before .before .before .before .before .before .before .args .x) (sym (c .before .before .before .before .before .before .before .before .is-idle .ensures) ∙ c .before .before .before .before .before .before .before .if1 .left) (omega arith) (sym (c .before .before .before .before .holds-at .ensures) ∙ c .before .before .before .if3 .taken)))
+
+returns-4 : tie.Need-returns-4
+returns-4 c = rw (c .phase-whole2 .ensures) (sym (tracker-loose (c .before .before .before .before .before .before .before .before .before .args .n) (c .before .before .before .before .before .before .before .before .before .args .l) (c .before .before .before .before .before .before .before .before .before .args .lines .now) (c .before .before .before .before .before .before .before .before .before .args .t4) (c .before .before .before .before .before .before .before .before .before .args .x) (sym (c .before .before .before .before .before .before .is-idle .ensures) ∙ c .before .before .before .before .before .if1 .left) (omega arith) (sym (c .before .before .holds-at .ensures) ∙ c .before .if3 .left)))
+
+pub tracker-whole-spec : {M : Type 1} → statement M
+tracker-whole-spec =
+    tie.close
+    (tie.spec
+    mul-t
+    array-copy-out-t
+    is-idle-requires
+    returns
+    mul-if2
+    cast-if2
+    returns-2
+    holds-at-requires
+    phase-whole-requires
+    held-by-it-requires
+    both-requires
+    phase-whole-requires-2
+    returns-3
+    returns-4)

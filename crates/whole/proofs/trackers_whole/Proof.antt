@@ -1,0 +1,52 @@
+-- `trackers_whole` meets its contract. The invariant: each of the first x trackers is whole.
+use mathlib.Core.Path.{_≡_, sym, _∙_}
+use Prim.Native.Nat.{_≤_, _-_}
+use mathlib.Core.Bool.{true}
+use native.Mathlib.Omega.{arith}
+use Rattle.laws.specs.Scan.{all}
+use Rattle.laws.proofs.Scan.{all-zero, all-more, all-fails}
+use Rattle.rules.specs.Whole.{trackerWhole}
+use Rattle.whole.specs.Parts.{stateOf}
+use Rattle.whole.proofs.trackers_whole.Statement.{statement}
+use Rattle.whole.proofs.trackers_whole.Tie as tie
+
+abbrev Inv-loop : tie.InvT-loop
+Inv-loop n t l lines trackers end x₀ x = (x ≤ t) × (all (trackerWhole (stateOf n 0 l 0 lines trackers)) x ≡ true)
+
+abbrev μ-loop : tie.MeasureT-loop
+μ-loop n t l lines trackers end x₀ x = end - x
+
+loop-holds : tie.Need-loop-holds Inv-loop μ-loop
+loop-holds c = (omega arith, all-zero _)
+
+tracker-whole-requires : tie.Need-tracker-whole-requires Inv-loop μ-loop
+tracker-whole-requires c κs = omega arith
+
+add-x : tie.Need-add-x Inv-loop μ-loop
+add-x c = omega arith
+
+loop-less : tie.Need-loop-less Inv-loop μ-loop
+loop-less c = omega arith
+
+loop-again : tie.Need-loop-again Inv-loop μ-loop
+loop-again c = (omega arith, all-more _ (c .before .before .before .loop .x) (c .before .before .before .loop .inv .1) (sym (c .before .tracker-whole .ensures) ∙ c .if1 .taken))
+
+returns : tie.Need-returns Inv-loop μ-loop
+returns c = sym (all-fails _ (c .before .before .before .before .before .args .t) (c .before .before .before .loop .x) (omega arith) (sym (c .before .tracker-whole .ensures) ∙ c .if1 .left))
+
+returns-2 : tie.Need-returns-2 Inv-loop μ-loop
+returns-2 c = let e : c .before .loop .x ≡ c .before .before .before .args .t = omega arith in sym (rw e at (c .before .loop .inv .1))
+
+pub trackers-whole-spec : {M : Type 1} → statement M
+trackers-whole-spec =
+    tie.close
+    (tie.spec
+    Inv-loop
+    μ-loop
+    loop-holds
+    tracker-whole-requires
+    add-x
+    loop-less
+    loop-again
+    returns
+    returns-2)

@@ -1,0 +1,250 @@
+// 01 "A state is whole when ..": the test, part by part, on lent lines and a table of trackers.
+// No public function has a `requires`; the parts that come after the limits may rely on them.
+use geometry::Geometry;
+use tracker::Phase;
+use tracker::Tracker;
+ghost use mathlib.Core.Path.{_≡_};
+ghost use Prim.Native.Nat.{_<_, _≤_, min};
+ghost use lib.Dec.{leb};
+ghost use lib.ListN.{length, getD};
+ghost use Rattle.laws.specs.Choice.{both, implies, no};
+ghost use Rattle.laws.specs.Scan.{all};
+ghost use Rattle.tracker.specs.Tracker.{holdsAt, isIdle};
+ghost use Rattle.line.specs.Word.{used};
+ghost use Rattle.rules.specs.State.{trackerAt};
+ghost use Rattle.rules.specs.Whole.{limits, holds, lineWhole, phaseWhole, trackerWhole, whole};
+ghost use Rattle.whole.specs.Parts.{stateOf, holderWhole, heldByIt};
+
+// n, T and L are in the limits.
+pub fn limits(n: u64, t: u64, l: u64) -> bool
+    ensures { λ r. ⌜ r ≡ limits n t l ⌝ }
+{
+    both(
+        Geometry::in_limits(n),
+        both(both(1 <= t, t <= 8), both(t < l, l <= 64)),
+    )
+}
+
+fn both(a: bool, b: bool) -> bool
+    ensures { λ r. ⌜ r ≡ both a b ⌝ }
+{
+    if a { b } else { false }
+}
+
+// A tracker at this phase holds its map block.
+fn holds_at(phase: Phase) -> bool
+    ensures { λ r. ⌜ r ≡ holdsAt phase ⌝ }
+{
+    match phase {
+        Phase::Idle => false,
+        Phase::Probe => false,
+        Phase::Map => false,
+        Phase::Leaf => true,
+        Phase::Set => true,
+        Phase::Clear => true,
+    }
+}
+
+// A tracker of a memory of n leaves holds block b.
+fn holds(n: u32, t: Tracker, b: u32) -> bool
+    ensures { λ r. ⌜ r ≡ holds n t b ⌝ }
+{
+    let phase = t.phase;
+    both(
+        holds_at(phase),
+        Geometry::map_number(n, Geometry::leaf_of(t.group)) == b as u64,
+    )
+}
+
+// A line that names a holder names a tracker, of t, that holds its block.
+fn holder_whole(n: u32, t: u32, w: u32, trackers: [Tracker; 8]) -> bool
+    requires { ⌜ t ≤ 8 ⌝ }
+    ensures { λ r. ⌜ r ≡ holderWhole n t trackers w ⌝ }
+{
+    let h = line::holder(w);
+    if h == 0 {
+        return true;
+    }
+    if t < h {
+        return false;
+    }
+    let x = (h - 1) as usize;
+    let tracker = trackers[x];
+    holds(n, tracker, line::block_of(w))
+}
+
+// Line i of l, which the row has: its block exists and has no other line, and its holder holds it.
+fn line_whole(n: u32, t: u32, l: usize, lines: &[u32], trackers: [Tracker; 8], i: usize) -> bool
+    requires { ⌜ (t ≤ 8) × (i < length (now lines)) ⌝ }
+    ensures { λ r. ⌜ r ≡ lineWhole (stateOf n t l 0 (now (lines .entry)) trackers) i ⌝ }
+{
+    let w = lines[i];
+    if w == 0 {
+        return true;
+    }
+    let b = line::block_of(w);
+    if Geometry::blocks(n) <= b as u64 {
+        return false;
+    }
+    both(
+        line::line_of(lines, l, b) == i,
+        holder_whole(n, t, w, trackers),
+    )
+}
+
+// Each of the l lines, which the row has.
+fn lines_whole(n: u32, t: u32, l: usize, lines: &[u32], trackers: [Tracker; 8]) -> bool
+    requires { ⌜ (t ≤ 8) × (l ≤ length (now lines)) ⌝ }
+    ensures { λ r. ⌜ r ≡ all (lineWhole (stateOf n t l 0 (now (lines .entry)) trackers)) l ⌝ }
+{
+    let mut i: usize = 0;
+    while i < l {
+        if line_whole(n, t, l, lines, trackers, i) {
+            i += 1;
+        } else {
+            return false;
+        }
+    }
+    true
+}
+
+// A tracker at Probe is bottom-up and one at Finish is a write.
+fn phase_whole(phase: Phase, write: bool, bottom: bool) -> bool
+    ensures { λ r. ⌜ r ≡ phaseWhole write bottom phase ⌝ }
+{
+    match phase {
+        Phase::Idle => true,
+        Phase::Probe => bottom,
+        Phase::Map => true,
+        Phase::Leaf => true,
+        Phase::Set => write,
+        Phase::Clear => write,
+    }
+}
+
+// The map block of group g is in one of l lines, which names tracker x as its holder.
+fn held_by_it(n: u32, l: usize, lines: &[u32], g: u32, x: usize) -> bool
+    requires { ⌜ (n ≤ 262144) × (l ≤ length (now lines)) × (x < 8) ⌝ }
+    ensures { λ r. ⌜ r ≡ heldByIt n l (now (lines .entry)) g x ⌝ }
+{
+    let b = Geometry::map_number(n, Geometry::leaf_of(g)) as u32;
+    let i = line::line_of(lines, l, b);
+    if l <= i {
+        return false;
+    }
+    line::holder(lines[i]) as usize == x + 1
+}
+
+// Tracker x: its group exists, its phase is as it must be, and it is the holder of the map block that it holds.
+fn tracker_whole(n: u32, l: usize, lines: &[u32], trackers: [Tracker; 8], x: usize) -> bool
+    requires { ⌜ (n ≤ 262144) × (l ≤ length (now lines)) × (x < 8) ⌝ }
+    ensures { λ r. ⌜ r ≡ trackerWhole (stateOf n 0 l 0 (now (lines .entry)) trackers) x ⌝ }
+{
+    let t = trackers[x];
+    if t.is_idle() {
+        return true;
+    }
+    if 16 * (n as u64) <= t.group as u64 {
+        return false;
+    }
+    let phase = t.phase;
+    if holds_at(phase) {
+        both(
+            phase_whole(phase, t.write, t.bottom),
+            held_by_it(n, l, lines, t.group, x),
+        )
+    } else {
+        phase_whole(phase, t.write, t.bottom)
+    }
+}
+
+// Each of the t trackers.
+fn trackers_whole(n: u32, t: u32, l: usize, lines: &[u32], trackers: [Tracker; 8]) -> bool
+    requires { ⌜ (n ≤ 262144) × (t ≤ 8) × (l ≤ length (now lines)) ⌝ }
+    ensures { λ r. ⌜ r ≡ all (trackerWhole (stateOf n 0 l 0 (now (lines .entry)) trackers)) t ⌝ }
+{
+    let end = t as usize;
+    let mut x: usize = 0;
+    while x < end {
+        if tracker_whole(n, l, lines, trackers, x) {
+            x += 1;
+        } else {
+            return false;
+        }
+    }
+    true
+}
+
+// Lines l and up are free.
+fn rest_free(l: usize, lines: &[u32]) -> bool
+    requires { ⌜ l ≤ length (now lines) ⌝ }
+    ensures { λ r. ⌜ r ≡ all (λ i. implies (leb l i) (no (used (getD (now (lines .entry)) i 0)))) (length (now (lines .entry))) ⌝ }
+{
+    let mut i = l;
+    while i < lines.len() {
+        if lines[i] != 0 {
+            return false;
+        }
+        i += 1;
+    }
+    true
+}
+
+// Trackers t and up are idle.
+fn rest_idle(t: u32, trackers: [Tracker; 8]) -> bool
+    requires { ⌜ t ≤ 8 ⌝ }
+    ensures { λ r. ⌜ r ≡ all (λ x. implies (leb t x) (isIdle (trackerAt trackers x))) 8 ⌝ }
+{
+    let mut x = t as usize;
+    while x < 8 {
+        let tracker = trackers[x];
+        if tracker.is_idle() {
+            x += 1;
+        } else {
+            return false;
+        }
+    }
+    true
+}
+
+// The state with these parts is whole.
+pub fn whole(n: u32, t: u32, l: usize, hand: usize, lines: &[u32], trackers: [Tracker; 8]) -> bool
+    ensures { λ r. ⌜ r ≡ whole (stateOf n t l hand (now (lines .entry)) trackers) ⌝ }
+{
+    if !limits(n as u64, t as u64, l as u64) {
+        return false;
+    }
+    if lines.len() < l {
+        return false;
+    }
+    let rest = both(rest_free(l, lines), rest_idle(t, trackers));
+    let rows = both(
+        lines_whole(n, t, l, lines, trackers),
+        trackers_whole(n, t, l, lines, trackers),
+    );
+    both(hand < l, both(rest, rows))
+}
+
+// Each of the t trackers is idle; those past the table are.
+pub fn all_idle(t: u32, trackers: [Tracker; 8]) -> bool
+    ensures { λ r. ⌜ r ≡ all (λ x. isIdle (trackerAt trackers x)) t ⌝ }
+{
+    let end = lesser(t, 8) as usize;
+    let mut x: usize = 0;
+    while x < end {
+        let tracker = trackers[x];
+        if tracker.is_idle() {
+            x += 1;
+        } else {
+            return false;
+        }
+    }
+    true
+}
+
+// The lesser of two numbers.
+fn lesser(a: u32, b: u32) -> u32
+    ensures { λ r. ⌜ r ≡ min a b ⌝ }
+{
+    if a < b { a } else { b }
+}

@@ -1,0 +1,51 @@
+-- Laws of writing's refusals: one for each way out, and what the call then gives and leaves.
+use mathlib.Core.Path.{_≡_}
+use mathlib.Core.List.{List}
+use mathlib.Core.Bool.{true, false}
+use Prim.Native.Nat.{ℕ, suc, _+_, _*_, _≤_, _<_}
+use lib.ListN.{length}
+use lib.Dec.{eqb·suc-zero}
+use borrow.Author.Tests.{eq-eqb, ne-eqb, le-leb, lt-leb}
+use Rattle.laws.specs.Bytes.{splice}
+use Rattle.geometry.specs.TagMemory.{inLimits, memoryLength}
+use Rattle.memory.specs.True.{isTrue}
+use Rattle.image.specs.Encode.{recordsOf, imageOf, blocksFor}
+use Rattle.image.specs.Calls.{writingRefusal, writingAnswer, written}
+use Rattle.image.proofs.Records.{records-sized, length-encode}
+
+-- the image's length by the number of leaves with bit 1
+pub length-image : (n : ℕ) (mem : List ℕ) (m : ℕ) → 64 * n ≤ length mem → m ≡ length (recordsOf n mem) → length (imageOf n mem) ≡ 512 * (1 + blocksFor m)
+length-image n mem m h e = rw e (length-encode 65535 1 n (recordsOf n mem) (records-sized n mem h))
+
+module _ (n : ℕ) (mem : List ℕ) (room : ℕ) where
+  pub refusal-1 : inLimits n ≡ false → writingRefusal n mem room ≡ 1
+  unfolding writingRefusal
+  refusal-1 h = rw h
+
+  pub refusal-2 : inLimits n ≡ true → (length mem ≡ memoryLength n → ⊥) → writingRefusal n mem room ≡ 2
+  unfolding writingRefusal
+  refusal-2 h g = rw (h, ne-eqb (length mem) (memoryLength n) g)
+
+  pub refusal-3 : inLimits n ≡ true → length mem ≡ memoryLength n → isTrue n mem ≡ false → writingRefusal n mem room ≡ 3
+  unfolding writingRefusal
+  refusal-3 h g t = rw (h, eq-eqb (length mem) (memoryLength n) g, t)
+
+  pub refusal-9 : inLimits n ≡ true → length mem ≡ memoryLength n → isTrue n mem ≡ true → room < length (imageOf n mem) → writingRefusal n mem room ≡ 9
+  unfolding writingRefusal
+  refusal-9 h g t r = rw (h, eq-eqb (length mem) (memoryLength n) g, t, lt-leb (length (imageOf n mem)) room r)
+
+  pub refusal-none : inLimits n ≡ true → length mem ≡ memoryLength n → isTrue n mem ≡ true → length (imageOf n mem) ≤ room → writingRefusal n mem room ≡ 0
+  unfolding writingRefusal
+  refusal-none h g t r = rw (h, eq-eqb (length mem) (memoryLength n) g, t, le-leb (length (imageOf n mem)) room r)
+
+-- refused, the answer is the refusal and the output stays; else the answer is the length and the image is in front
+module _ (n : ℕ) (mem output : List ℕ) where
+  pub refused : (code : ℕ) → writingRefusal n mem (length output) ≡ suc code
+      → (4294967296 + suc code ≡ writingAnswer n mem (length output)) × (output ≡ written n mem output)
+  unfolding writingAnswer written
+  refused code e = (rw (e, eqb·suc-zero code), rw (e, eqb·suc-zero code))
+
+  pub accepted : (long : ℕ) → writingRefusal n mem (length output) ≡ 0 → long ≡ length (imageOf n mem)
+      → (long ≡ writingAnswer n mem (length output)) × (splice output 0 (imageOf n mem) ≡ written n mem output)
+  unfolding writingAnswer written
+  accepted long e l = (rw e l, rw e)
