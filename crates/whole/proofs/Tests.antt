@@ -7,13 +7,13 @@ use Prim.Native.Nat.{ℕ, _+_, _-_, _*_, _≤_, _<_, min}
 use native.Mathlib.Omega.{arith}
 use lib.Dec.{eqb, ltb, leb}
 use lib.ListN.{length, getD, List·getD-eq-default}
-use borrow.Author.Tests.{lt-ltb, le-ltb, le-leb, lt-leb, leb-true}
+use borrow.Author.Tests.{lt-ltb, le-ltb, le-leb, lt-leb}
 use Rattle.laws.specs.Choice.{both, implies, no}
 use Rattle.laws.specs.Scan.{all}
-use Rattle.laws.proofs.Choice.{both-left, both-right, both-false-left, both-false-right, implied}
+use Rattle.laws.proofs.Choice.{both-false-left, both-false-right, implied}
 use Rattle.laws.proofs.Splice.{lt-or-ge}
 use Rattle.laws.proofs.Scan.{all-is, all-at, all-more, all-fails}
-use Rattle.geometry.specs.TagMemory.{inLimits, blocks}
+use Rattle.geometry.specs.TagMemory.{blocks}
 use Rattle.tracker.specs.declared.Phase.{Phase}
 use Rattle.tracker.specs.declared.Phase.the-variants.{Idle, Probe, Map, Leaf, Set, Clear}
 use Rattle.tracker.specs.declared.Tracker.{Tracker}
@@ -21,32 +21,15 @@ use Rattle.tracker.specs.Tracker.{idle, isIdle, isIdleAt, holdsAt}
 use Rattle.line.specs.Word.{used, blockOf, holder, held}
 use Rattle.line.specs.Find.{lineOf}
 use Rattle.line.proofs.Words.{used-is, free-used}
-use Rattle.rules.specs.State.{State, trackerAt}
+use Rattle.rules.specs.State.{trackerAt}
 use Rattle.rules.specs.Whole.{limits, mapBlock, holds, lineWhole, phaseWhole, trackerWhole, whole}
+use Rattle.rules.proofs.Whole.{t-most}
 use Rattle.whole.specs.Parts.{stateOf, holderWhole, heldByIt}
 
 both-yes : (a : Bool) → both a true ≡ a
 unfolding both
 both-yes true = refl
 both-yes false = refl
-
--- limits
-module _ (n t l : ℕ) (h : limits n t l ≡ true) where
-  pub limits-t : t ≤ 8
-  unfolding limits
-  limits-t = leb-true t 8 (both-right (leb 1 t) _ (both-left _ _ (both-right (inLimits n) _ h)))
-
-  pub limits-l : l ≤ 64
-  unfolding limits
-  limits-l = leb-true l 64 (both-right (leb (t + 1) l) _ (both-right (both (leb 1 t) (leb t 8)) _ (both-right (inLimits n) _ h)))
-
-  pub limits-more : t + 1 ≤ l
-  unfolding limits
-  limits-more = leb-true (t + 1) l (both-left _ _ (both-right (both (leb 1 t) (leb t 8)) _ (both-right (inLimits n) _ h)))
-
-  pub limits-n : n ≤ 262144
-  unfolding limits inLimits
-  limits-n = leb-true n 262144 (both-right (leb 1 n) _ (both-left _ _ h))
 
 -- the holder of a line
 module _ (n t w : ℕ) (ts : List Tracker) where
@@ -174,19 +157,4 @@ module _ (n t l hand : ℕ) (lines : List ℕ) (ts : List Tracker) where
       (both (both (all (λ i. implies (leb l i) (no (used (getD lines i 0)))) (length lines)) (all (λ x. implies (leb t x) (isIdle (trackerAt ts x))) 8))
       (both (all (lineWhole (stateOf n t l 0 lines ts)) l) (all (trackerWhole (stateOf n 0 l 0 lines ts)) t)))
   unfolding whole both lineWhole trackerWhole
-  whole-is h q e = rw (h, le-leb l (length lines) q, e, le-leb t 8 (limits-t n t l h))
-
--- a whole state is in the limits
-module _ (s : State) (h : whole s ≡ true) where
-  in-limits : limits (s .n) (s .t) (s .l) ≡ true
-  unfolding whole
-  in-limits = both-left _ (ltb (s .hand) (s .l)) (both-left _ _ h)
-
-  pub whole-n : s .n ≤ 262144
-  whole-n = limits-n (s .n) (s .t) (s .l) in-limits
-
-  pub whole-t : s .t ≤ 8
-  whole-t = limits-t (s .n) (s .t) (s .l) in-limits
-
-  pub whole-l : s .l ≤ 64
-  whole-l = limits-l (s .n) (s .t) (s .l) in-limits
+  whole-is h q e = rw (h, le-leb l (length lines) q, e, le-leb t 8 (t-most n t l h))

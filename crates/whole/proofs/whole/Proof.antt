@@ -3,7 +3,8 @@ use borrow.Author.Needs.{needs}
 use mathlib.Core.Path.{sym, _∙_}
 use native.Mathlib.Omega.{arith}
 use borrow.Author.Tests.{not-true, not-false}
-use Rattle.whole.proofs.Tests.{limits-t, limits-n, whole-limits, whole-short, whole-is}
+use Rattle.rules.proofs.Whole.{n-most, t-most}
+use Rattle.whole.proofs.Tests.{whole-limits, whole-short, whole-is}
 use Rattle.whole.proofs.whole.Statement.{statement}
 use Rattle.whole.proofs.whole.Tie as tie
 
@@ -20,16 +21,16 @@ rest-free-requires : tie.Need-rest-free-requires
 rest-free-requires c κs = search needs
 
 rest-idle-requires : tie.Need-rest-idle-requires
-rest-idle-requires c κs = limits-t (c .before .before .before .before .before .args .n) (c .before .before .before .before .before .args .t) (c .before .before .before .before .before .args .l) (sym (c .before .before .before .limits .ensures) ∙ not-false _ (c .before .before .if1 .left))
+rest-idle-requires c κs = t-most (c .before .before .before .before .before .args .n) (c .before .before .before .before .before .args .t) (c .before .before .before .before .before .args .l) (sym (c .before .before .before .limits .ensures) ∙ not-false _ (c .before .before .if1 .left))
 
 both-requires : tie.Need-both-requires
 both-requires c κs = search needs
 
 lines-whole-requires : tie.Need-lines-whole-requires
-lines-whole-requires c κs = (limits-t (c .before .before .before .before .before .before .before .args .n) (c .before .before .before .before .before .before .before .args .t) (c .before .before .before .before .before .before .before .args .l) (sym (c .before .before .before .before .before .limits .ensures) ∙ not-false _ (c .before .before .before .before .if1 .left)), omega arith)
+lines-whole-requires c κs = (t-most (c .before .before .before .before .before .before .before .args .n) (c .before .before .before .before .before .before .before .args .t) (c .before .before .before .before .before .before .before .args .l) (sym (c .before .before .before .before .before .limits .ensures) ∙ not-false _ (c .before .before .before .before .if1 .left)), omega arith)
 
 trackers-whole-requires : tie.Need-trackers-whole-requires
-trackers-whole-requires c κs = (limits-n (c .before .before .before .before .before .before .before .before .args .n) (c .before .before .before .before .before .before .before .before .args .t) (c .before .before .before .before .before .before .before .before .args .l) (sym (c .before .before .before .before .before .before .limits .ensures) ∙ not-false _ (c .before .before .before .before .before .if1 .left)), limits-t (c .before .before .before .before .before .before .before .before .args .n) (c .before .before .before .before .before .before .before .before .args .t) (c .before .before .before .before .before .before .before .before .args .l) (sym (c .before .before .before .before .before .before .limits .ensures) ∙ not-false _ (c .before .before .before .before .before .if1 .left)), omega arith)
+trackers-whole-requires c κs = (n-most (c .before .before .before .before .before .before .before .before .args .n) (c .before .before .before .before .before .before .before .before .args .t) (c .before .before .before .before .before .before .before .before .args .l) (sym (c .before .before .before .before .before .before .limits .ensures) ∙ not-false _ (c .before .before .before .before .before .if1 .left)), t-most (c .before .before .before .before .before .before .before .before .args .n) (c .before .before .before .before .before .before .before .before .args .t) (c .before .before .before .before .before .before .before .before .args .l) (sym (c .before .before .before .before .before .before .limits .ensures) ∙ not-false _ (c .before .before .before .before .before .if1 .left)), omega arith)
 
 both-requires-2 : tie.Need-both-requires-2
 both-requires-2 c κs = search needs
