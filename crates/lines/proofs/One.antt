@@ -6,11 +6,14 @@ use Prim.Native.Nat.{ℕ, _*_}
 use lib.Dec.{eqb}
 use lib.ListN.{length}
 use Rattle.rules.specs.State.{Rows}
-use Rattle.rules.specs.Place.{Brought}
+use Rattle.rules.specs.Place.{rowsFit, Brought}
 use Rattle.lines.specs.Lines.{rows, Gives, Drains}
 
 pub bytes-fit-one : (l : ℕ) (bytes : List ℕ) {a b : Bool} → a ≡ eqb (length bytes) (64 * l) → b ≡ eqb (length bytes) (64 * l) → a ≡ b
 bytes-fit-one l bytes p q = p ∙ sym q
+
+pub rows-fit-one : (l : ℕ) (lines bytes : List ℕ) {a b : Bool} → a ≡ rowsFit l lines bytes → b ≡ rowsFit l lines bytes → a ≡ b
+rows-fit-one l lines bytes p q = p ∙ sym q
 
 -- what `place`, `fetch` and `bring_in` leave: the line, the hand and the rows
 abbrev pub left : ℕ → ℕ → List ℕ → List ℕ → List ℕ → Brought

@@ -10,7 +10,7 @@ use lib.Dec.{eqb, ltb, leb}
 use lib.ListN.{length, getD, set, length-set}
 use borrow.Author.Tests.{lt-ltb, le-ltb, le-leb, lt-leb, ltb-true, ltb-false, leb-true, eqb-true, eqb-false, eq-eqb, ne-eqb}
 use Rattle.laws.specs.Choice.{pick, both, no}
-use Rattle.laws.proofs.Choice.{not-both-ways, true-or-false, both-left, both-right, no-true}
+use Rattle.laws.proofs.Choice.{not-both-ways, true-or-false, both-true, both-left, both-right, no-true}
 use Rattle.laws.specs.Bytes.{part, putW}
 use Rattle.geometry.specs.TagMemory.{blockPlace}
 use Rattle.block.specs.Block.{blockOr0}
@@ -31,6 +31,10 @@ fit-lines l lines bytes e = leb-true _ _ (both-left _ _ e)
 pub fit-bytes : (l : ℕ) (lines bytes : List ℕ) → rowsFit l lines bytes ≡ true → length bytes ≡ 64 * l
 unfolding rowsFit
 fit-bytes l lines bytes e = eqb-true _ _ (both-right _ _ e)
+
+pub rows-fit : (l : ℕ) (lines bytes : List ℕ) → l ≤ length lines → length bytes ≡ 64 * l → rowsFit l lines bytes ≡ true
+unfolding rowsFit
+rows-fit l lines bytes h e = both-true _ _ (le-leb _ _ h) (eq-eqb _ _ e)
 
 -- the tests of the lengths, way by way
 pub bytes-ragged : (m l : ℕ) → (m % 64 ≡ 0 → ⊥) → false ≡ eqb m (64 * l)
@@ -182,3 +186,28 @@ module _ (l : ℕ) (lines bytes memory : List ℕ) where
   pub drainedRows-misfit : rowsFit l lines bytes ≡ false → Drains (drainedRows l (rows lines bytes memory)) lines memory
   unfolding drainedRows
   drainedRows-misfit e = rw e (record { lines = refl; memory = refl })
+
+-- what is given is the rule's value
+pub given : {b : Brought} {i h : ℕ} {ls bs m : List ℕ} → Gives b i h ls bs m → b ≡ (record { line = i; hand = h; rows = rows ls bs m })
+given g = rw (g .line, g .hand, g .lines, g .bytes, g .memory) refl
+
+-- where there was no line to take, nothing changed
+pub fetched-same : (l hand b : ℕ) (r : Rows) → l ≤ fetched l hand b r .line → fetched l hand b r .rows ≡ r
+unfolding fetched
+fetched-same l hand b r h = same (ltb (placeLine l hand (r .lines) (r .bytes)) l) refl
+  where
+    same : (f : Bool) → ltb (placeLine l hand (r .lines) (r .bytes)) l ≡ f → fetched l hand b r .rows ≡ r
+    same true e =
+        let p : placeLine l hand (r .lines) (r .bytes) < l = ltb-true _ _ e in
+        let q : l ≤ placeLine l hand (r .lines) (r .bytes) = rw e at h in
+        absurd (omega arith)
+    same false e = rw e refl
+
+pub bringIn-same : (l hand b : ℕ) (lines bytes memory : List ℕ) → l ≤ bringIn l hand b (rows lines bytes memory) .line
+    → bringIn l hand b (rows lines bytes memory) .rows ≡ rows lines bytes memory
+unfolding bringIn fetched
+bringIn-same l hand b lines bytes memory h = same (ltb (lineOf lines l b) l) refl
+  where
+    same : (f : Bool) → ltb (lineOf lines l b) l ≡ f → bringIn l hand b (rows lines bytes memory) .rows ≡ rows lines bytes memory
+    same true e = rw e refl
+    same false e = rw e (fetched-same l hand b (rows lines bytes memory) (rw e at h))

@@ -25,7 +25,7 @@ pub fn bytes_fit(l: usize, bytes: &[u8]) -> bool
 }
 
 // The rows are of L lines.
-fn rows_fit(l: usize, lines: &[u32], bytes: &[u8]) -> bool
+pub fn rows_fit(l: usize, lines: &[u32], bytes: &[u8]) -> bool
     ensures { λ r. ⌜ r ≡ rowsFit l (now (lines .entry)) (now (bytes .entry)) ⌝ }
 {
     if lines.len() < l {

@@ -86,3 +86,17 @@ pub fn advance<'s, 'a>(r: &'s mut Reader<'a>) -> Reading
     r.place = found.next;
     found
 }
+
+// What stands next in a reader that is handed over.
+pub fn peek<'a>(r: Reader<'a>) -> Reading
+    ensures { λ s. ⌜ s ≡ readingAt (now (r .entry .image)) (r .entry .place) ⌝ }
+{
+    read_at(r.image, r.place)
+}
+
+// The first record of an image, by a reader that is opened here: callers hand over plain bytes.
+pub fn first(image: &[u8]) -> Reading
+    ensures { λ r. ⌜ r ≡ readingAt (openedImage (now (image .entry))) 0 ⌝ }
+{
+    peek(open(image))
+}

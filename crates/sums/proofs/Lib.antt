@@ -1,3 +1,4 @@
 pub mod Splices
 pub mod Words
 pub mod Right
+pub mod One

@@ -1,0 +1,7 @@
+pub mod Fields
+pub mod Written
+pub mod Encoded
+pub mod Restored
+pub mod Reading
+pub mod RoundTrip
+pub mod Facts

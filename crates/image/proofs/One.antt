@@ -1,0 +1,30 @@
+-- Each promise of this crate allows one result for one input: the answer, or the lent bytes, equal a definition.
+use mathlib.Core.Path.{_≡_}
+use mathlib.Core.Bool.{Bool}
+use mathlib.Core.List.{List}
+use Prim.Native.Nat.{ℕ}
+use lib.ListN.{replicate}
+use Rattle.laws.specs.Bytes.{putW}
+use Rattle.geometry.proofs.One.{one}
+use Rattle.image.specs.Test.{headSound, countRight, blockSound, leavesIn, recordedIn, imageTest}
+
+pub head-sound-one : (block : List ℕ) {r s : Bool} → r ≡ headSound 1 block → s ≡ headSound 1 block → r ≡ s
+head-sound-one block = one
+
+pub count-right-one : (last : Bool) (c : ℕ) {r s : Bool} → r ≡ countRight last c → s ≡ countRight last c → r ≡ s
+count-right-one last c = one
+
+pub block-sound-one : (last : Bool) (j : ℕ) (block : List ℕ) {r s : Bool} → r ≡ blockSound last j block → s ≡ blockSound last j block → r ≡ s
+block-sound-one last j block = one
+
+pub leaves-in-one : (image : List ℕ) {r s : ℕ} → r ≡ leavesIn image → s ≡ leavesIn image → r ≡ s
+leaves-in-one image = one
+
+pub recorded-in-one : (image : List ℕ) {r s : ℕ} → r ≡ recordedIn image → s ≡ recordedIn image → r ≡ s
+recorded-in-one image = one
+
+pub image-test-one : (image : List ℕ) {r s : ℕ} → r ≡ imageTest 65535 1 image → s ≡ imageTest 65535 1 image → r ≡ s
+image-test-one image = one
+
+pub clear-one : (row : List ℕ) (at count : ℕ) {r s : List ℕ} → r ≡ putW count row at (replicate count 0) → s ≡ putW count row at (replicate count 0) → r ≡ s
+clear-one row at count = one

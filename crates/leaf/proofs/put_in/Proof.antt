@@ -1,0 +1,86 @@
+-- `put_in` meets its contract: all 64 bytes are zero, or not.
+use borrow.Author.Needs.{needs}
+use native.Mathlib.Omega.{arith}
+use mathlib.Core.Path.{_∙_}
+use lib.ListN.{length-set}
+use Rattle.turned.proofs.Rule.{by-rule}
+use Rattle.leaf.proofs.Ways.{putIn-clear, putIn-done}
+use Rattle.leaf.proofs.put_in.Statement.{statement}
+use Rattle.leaf.proofs.put_in.Tie as tie
+
+mul-at : tie.Need-mul-at
+mul-at c = search needs
+
+byte-of-requires : tie.Need-byte-of-requires
+byte-of-requires c κs = search needs
+
+add-put-group : tie.Need-add-put-group
+add-put-group c = search needs
+
+put-group-requires : tie.Need-put-group-requires
+put-group-requires c κs = search needs
+
+add-all-zero : tie.Need-add-all-zero
+add-all-zero c = search needs
+
+sub-all-zero : tie.Need-sub-all-zero
+sub-all-zero c = search needs
+
+part-all-zero-start : tie.Need-part-all-zero-start
+part-all-zero-start c = search needs
+
+part-all-zero-end : tie.Need-part-all-zero-end
+part-all-zero-end c = search needs
+
+all-zero-requires : tie.Need-all-zero-requires
+all-zero-requires c κs = search needs
+
+mul-lines : tie.Need-mul-lines
+mul-lines c = search needs
+
+slice-write-lines : tie.Need-slice-write-lines
+slice-write-lines c = search needs
+
+goes-requires : tie.Need-goes-requires
+goes-requires c κs = search needs
+
+same-length : tie.Need-same-length
+same-length c = search needs
+
+same-length-2 : tie.Need-same-length-2
+same-length-2 c = search needs
+
+returns : tie.Need-returns
+returns c = λ m. by-rule (putIn-clear _ _ _ _ _ _ _ _ m (c .before .before .before .before .before .before .before .before .byte-of .ensures) (c .before .before .before .before .before .before .before .put-group .ensures) _ (c .before .before .all-zero .ensures) (c .before .if1 .taken)) (c .goes .ensures _ _ m)
+
+leaf-of-requires : tie.Need-leaf-of-requires
+leaf-of-requires c κs = search needs
+
+word-requires : tie.Need-word-requires
+word-requires c κs = search needs
+
+mul-lines-2 : tie.Need-mul-lines-2
+mul-lines-2 c = search needs
+
+slice-write-lines-2 : tie.Need-slice-write-lines-2
+slice-write-lines-2 c = search needs
+
+let-go-requires : tie.Need-let-go-requires
+let-go-requires c κs = search needs
+
+ends-done-requires : tie.Need-ends-done-requires
+ends-done-requires c κs = search needs
+
+same-length-3 : tie.Need-same-length-3
+same-length-3 c = c .before .before .before .let-go .kept .0 ∙ simp length-set
+
+same-length-4 : tie.Need-same-length-4
+same-length-4 c = search needs
+
+returns-2 : tie.Need-returns-2
+returns-2 c =
+    λ m. by-rule (putIn-done _ _ _ _ _ _ _ _ m (c .before .before .before .before .before .before .before .before .before .before .before .before .before .before .byte-of .ensures) (c .before .before .before .before .before .before .before .before .before .before .before .before .before .put-group .ensures) _ (c .before .before .before .before .before .before .before .before .all-zero .ensures) _ _ _ (c .before .before .before .before .before .before .before .if1 .left) (c .before .before .before .before .before .before .leaf-of .ensures) (c .before .before .before .before .before .word .ensures) (c .before .before .before .let-go .ensures))
+    (c .ends-done .ensures _ _ m)
+
+pub put-in-spec : {M : Type 1} → statement M
+put-in-spec = tie.close (tie.spec mul-at byte-of-requires add-put-group put-group-requires add-all-zero sub-all-zero part-all-zero-start part-all-zero-end all-zero-requires mul-lines slice-write-lines goes-requires same-length same-length-2 returns leaf-of-requires word-requires mul-lines-2 slice-write-lines-2 let-go-requires ends-done-requires same-length-3 same-length-4 returns-2)

@@ -1,0 +1,216 @@
+// 01 "One step of a tracker": the steps on a leaf, Probe and Leaf, on rows that are lent.
+// No public function has a `requires`: where the rows are not of L lines, the step is refused.
+use geometry::Geometry;
+use tracker::Phase;
+use tracker::Tracker;
+use turned::Turned;
+ghost use mathlib.Core.Path.{_≡_};
+ghost use mathlib.Core.List.{List};
+ghost use mathlib.Core.Bool.{true};
+ghost use Prim.Native.Nat.{ℕ, _+_, _*_, _≤_, _<_};
+ghost use lib.Dec.{ltb};
+ghost use lib.ListN.{length};
+ghost use Rattle.laws.specs.Choice.{both};
+ghost use Rattle.geometry.specs.TagMemory.{leafOf};
+ghost use Rattle.tracker.specs.declared.Phase.the-variants.{Set};
+ghost use Rattle.rules.specs.Place.{rowsFit, filled};
+ghost use Rattle.rules.specs.Step.{goes, groupIn, letGo, newLeaf, leafRead, putIn, writeUnder1, writeUnder0};
+ghost use Rattle.lines.specs.Lines.{rows};
+ghost use Rattle.turned.specs.Steps.{Steps};
+ghost use Rattle.leaf.specs.Leaf.{probeOn, leafOn};
+
+// Group g in line i.
+fn group_in(bytes: &[u8], i: usize, g: u32) -> u32
+    requires { ⌜ 64 * i + 64 ≤ length (now bytes) ⌝ }
+    ensures { λ r. ⌜ r ≡ groupIn (now (bytes .entry)) i g ⌝ }
+{
+    block::group_at(bytes, Geometry::BLOCK_LEN * i + Geometry::byte_of(g))
+}
+
+// Line i's block is let go.
+fn let_go(lines: &mut [u32], i: usize)
+    requires { ⌜ i < length (now lines) ⌝ }
+    ensures { λ _. ⌜ now (lines .exit) ≡ letGo (now (lines .entry)) i ⌝ }
+{
+    lines[i] = line::held_by(lines[i], 0);
+}
+
+// Probe. Leaf in a line: a read ends with the group; a write whose group equals v ends "same". Otherwise on to Map.
+pub fn probe(l: usize, hand: usize, t: Tracker, lines: &[u32], bytes: &[u8]) -> Turned
+    ensures { λ r. ⌜ ((m : List ℕ) → Steps (probeOn l hand t (rows (now (lines .entry)) (now (bytes .entry)) m)) (r .answer) (r .hand) (r .tracker) (now (lines .entry)) (now (bytes .entry)) m) ⌝ }
+{
+    if !lines::rows_fit(l, lines, bytes) {
+        return turned::refuses(4, hand, t);
+    }
+    let g = t.group;
+    let i = line::line_of(lines, l, Geometry::leaf_of(g));
+    if l <= i {
+        return turned::goes(hand, t, Phase::Map);
+    }
+    let v = group_in(bytes, i, g);
+    if !t.write {
+        return turned::ends_read(hand, t, v);
+    }
+    if v == t.value {
+        return turned::ends_same(hand, t);
+    }
+    turned::goes(hand, t, Phase::Map)
+}
+
+// Leaf, read. Bring in the leaf, end with the group, let go. The map block is in line j.
+fn leaf_read(
+    l: usize,
+    hand: usize,
+    j: usize,
+    t: Tracker,
+    lines: &mut [u32],
+    bytes: &mut [u8],
+    memory: &mut [u8],
+) -> Turned
+    requires { ⌜ (j < l) × (l ≤ length (now lines)) × (length (now bytes) ≡ 64 * l) ⌝ }
+    ensures { λ r. ⌜ Steps (leafRead l hand j t (rows (now (lines .entry)) (now (bytes .entry)) (now (memory .entry)))) (r .answer) (r .hand) (r .tracker) (now (lines .exit)) (now (bytes .exit)) (now (memory .exit)) ⌝ }
+{
+    let g = t.group;
+    let spot = lines::bring_in(l, hand, Geometry::leaf_of(g), lines, bytes, memory);
+    let i = spot.line;
+    if l <= i {
+        return turned::refuses(4, hand, t);
+    }
+    let v = group_in(bytes, i, g);
+    let_go(lines, j);
+    turned::ends_read(spot.hand, t, v)
+}
+
+// Put v in, the leaf in line i. All 64 bytes now zero: the line is made free, on to Finish (clear). Else the line is changed, end "done", let go.
+fn put_in(
+    j: usize,
+    i: usize,
+    hand: usize,
+    t: Tracker,
+    lines: &mut [u32],
+    bytes: &mut [u8],
+) -> Turned
+    requires { ⌜ (j < length (now lines)) × (i < length (now lines)) × (64 * i + 64 ≤ length (now bytes)) ⌝ }
+    ensures { λ r. ⌜ ((m : List ℕ) → Steps (putIn j t (record { line = i; hand = hand; rows = rows (now (lines .entry)) (now (bytes .entry)) m })) (r .answer) (r .hand) (r .tracker) (now (lines .exit)) (now (bytes .exit)) m) ⌝ }
+{
+    let g = t.group;
+    let at = Geometry::BLOCK_LEN * i;
+    block::put_group(bytes, at + Geometry::byte_of(g), t.value);
+    if block::all_zero(&bytes[at..at + Geometry::BLOCK_LEN]) {
+        lines[i] = 0;
+        return turned::goes(hand, t, Phase::Clear);
+    }
+    lines[i] = line::word(Geometry::leaf_of(g), true, 0);
+    let_go(lines, j);
+    turned::ends_done(hand, t)
+}
+
+// Leaf, write, under bit 1. Bring in the leaf; group equal to v: end "same", let go. Else put v in.
+fn write_under_1(
+    l: usize,
+    hand: usize,
+    j: usize,
+    t: Tracker,
+    lines: &mut [u32],
+    bytes: &mut [u8],
+    memory: &mut [u8],
+) -> Turned
+    requires { ⌜ (j < l) × (l ≤ length (now lines)) × (length (now bytes) ≡ 64 * l) ⌝ }
+    ensures { λ r. ⌜ Steps (writeUnder1 l hand j t (rows (now (lines .entry)) (now (bytes .entry)) (now (memory .entry)))) (r .answer) (r .hand) (r .tracker) (now (lines .exit)) (now (bytes .exit)) (now (memory .exit)) ⌝ }
+{
+    let g = t.group;
+    let spot = lines::bring_in(l, hand, Geometry::leaf_of(g), lines, bytes, memory);
+    let i = spot.line;
+    if l <= i {
+        return turned::refuses(4, hand, t);
+    }
+    if group_in(bytes, i, g) == t.value {
+        let_go(lines, j);
+        return turned::ends_same(spot.hand, t);
+    }
+    put_in(j, i, spot.hand, t, lines, bytes)
+}
+
+// 64 zero bytes, never fetched, with v put in.
+fn new_leaf(t: Tracker) -> [u8; Geometry::BLOCK_LEN]
+    ensures { λ r. ⌜ r ≡ newLeaf t ⌝ }
+{
+    let mut leaf = [0u8; Geometry::BLOCK_LEN];
+    block::put_group(&mut leaf, Geometry::byte_of(t.group), t.value);
+    leaf
+}
+
+// The new leaf goes into line i, changed; on to Finish (set).
+fn create(i: usize, hand: usize, t: Tracker, lines: &mut [u32], bytes: &mut [u8]) -> Turned
+    requires { ⌜ (i < length (now lines)) × (64 * i + 64 ≤ length (now bytes)) ⌝ }
+    ensures { λ r. ⌜ ((m : List ℕ) → Steps (goes t Set hand (filled (rows (now (lines .entry)) (now (bytes .entry)) m) i (leafOf (t .group)) true (newLeaf t))) (r .answer) (r .hand) (r .tracker) (now (lines .exit)) (now (bytes .exit)) m) ⌝ }
+{
+    let leaf = new_leaf(t);
+    lines[i] = line::word(Geometry::leaf_of(t.group), true, 0);
+    block::write_block(bytes, Geometry::BLOCK_LEN * i, &leaf);
+    turned::goes(hand, t, Phase::Set)
+}
+
+// Leaf, write, under bit 0. Group equal to v: end "same", let go. Else the leaf goes into its line if it has one, else is placed.
+fn write_under_0(
+    l: usize,
+    hand: usize,
+    j: usize,
+    t: Tracker,
+    lines: &mut [u32],
+    bytes: &mut [u8],
+    memory: &mut [u8],
+) -> Turned
+    requires { ⌜ (j < l) × (l ≤ length (now lines)) × (length (now bytes) ≡ 64 * l) ⌝ }
+    ensures { λ r. ⌜ Steps (writeUnder0 l hand j t (rows (now (lines .entry)) (now (bytes .entry)) (now (memory .entry)))) (r .answer) (r .hand) (r .tracker) (now (lines .exit)) (now (bytes .exit)) (now (memory .exit)) ⌝ }
+{
+    if t.value == 0 {
+        let_go(lines, j);
+        return turned::ends_same(hand, t);
+    }
+    let i = line::line_of(lines, l, Geometry::leaf_of(t.group));
+    if i < l {
+        return create(i, hand, t, lines, bytes);
+    }
+    let spot = lines::place(l, hand, lines, bytes, memory);
+    let at = spot.line;
+    if l <= at {
+        return turned::refuses(4, hand, t);
+    }
+    create(at, spot.hand, t, lines, bytes)
+}
+
+// The rows are of L lines, and j is one of them.
+fn in_rows(l: usize, j: usize, lines: &[u32], bytes: &[u8]) -> bool
+    ensures { λ r. ⌜ r ≡ both (ltb j l) (rowsFit l (now (lines .entry)) (now (bytes .entry))) ⌝ }
+{
+    if l <= j {
+        return false;
+    }
+    lines::rows_fit(l, lines, bytes)
+}
+
+// Leaf, by the bit that was read in the held map line, which is line j.
+pub fn leaf(
+    l: usize,
+    hand: usize,
+    j: usize,
+    bit: u8,
+    t: Tracker,
+    lines: &mut [u32],
+    bytes: &mut [u8],
+    memory: &mut [u8],
+) -> Turned
+    ensures { λ r. ⌜ Steps (leafOn l hand j bit t (rows (now (lines .entry)) (now (bytes .entry)) (now (memory .entry)))) (r .answer) (r .hand) (r .tracker) (now (lines .exit)) (now (bytes .exit)) (now (memory .exit)) ⌝ }
+{
+    if !in_rows(l, j, lines, bytes) {
+        return turned::refuses(4, hand, t);
+    }
+    if !t.write {
+        return leaf_read(l, hand, j, t, lines, bytes, memory);
+    }
+    if bit == 0 {
+        return write_under_0(l, hand, j, t, lines, bytes, memory);
+    }
+    write_under_1(l, hand, j, t, lines, bytes, memory)
+}

@@ -1,0 +1,101 @@
+-- `by_phase` meets its contract: one rule for each phase.
+use borrow.Author.Needs.{needs}
+use Rattle.turned.proofs.Rule.{by-rule}
+use Rattle.step.proofs.Ways.{at-phase, at-probe}
+use native.Mathlib.Omega.{arith}
+use Rattle.lines.proofs.Ways.{rows-fit}
+use Rattle.step.proofs.by_phase.Statement.{statement}
+use Rattle.step.proofs.by_phase.Tie as tie
+
+enum-told : tie.Need-enum-told
+enum-told c = search needs
+
+refuses-requires : tie.Need-refuses-requires
+refuses-requires c κs = search needs
+
+enum-told-2 : tie.Need-enum-told-2
+enum-told-2 c = search needs
+
+probe-requires : tie.Need-probe-requires
+probe-requires c κs = search needs
+
+enum-told-3 : tie.Need-enum-told-3
+enum-told-3 c = search needs
+
+map-requires : tie.Need-map-requires
+map-requires c κs = search needs
+
+enum-told-4 : tie.Need-enum-told-4
+enum-told-4 c = search needs
+
+at-leaf-requires : tie.Need-at-leaf-requires
+at-leaf-requires c κs = search needs
+
+enum-told-5 : tie.Need-enum-told-5
+enum-told-5 c = search needs
+
+finishes-requires : tie.Need-finishes-requires
+finishes-requires c κs = search needs
+
+enum-told-6 : tie.Need-enum-told-6
+enum-told-6 c = search needs
+
+finishes-requires-2 : tie.Need-finishes-requires-2
+finishes-requires-2 c κs = search needs
+
+returns : tie.Need-returns
+returns c = by-rule (at-phase _ _ _ _ _ _ (c .before .enum-told .given .1)) (c .refuses .ensures _ _ _)
+
+same-length : tie.Need-same-length
+same-length c = search needs
+
+same-length-2 : tie.Need-same-length-2
+same-length-2 c = search needs
+
+returns-2 : tie.Need-returns-2
+returns-2 c = by-rule (at-probe _ _ _ _ _ _ (rows-fit _ _ _ (omega arith) (omega arith)) (c .before .before .before .enum-told2 .given .1)) (c .probe .ensures _)
+
+same-length-3 : tie.Need-same-length-3
+same-length-3 c = search needs
+
+same-length-4 : tie.Need-same-length-4
+same-length-4 c = search needs
+
+same-length-5 : tie.Need-same-length-5
+same-length-5 c = search needs
+
+returns-3 : tie.Need-returns-3
+returns-3 c = by-rule (at-phase _ _ _ _ _ _ (c .before .before .before .before .before .before .before .before .before .before .enum-told3 .given .1)) (c .before .before .before .before .before .before .map .ensures)
+
+same-length-6 : tie.Need-same-length-6
+same-length-6 c = search needs
+
+same-length-7 : tie.Need-same-length-7
+same-length-7 c = search needs
+
+same-length-8 : tie.Need-same-length-8
+same-length-8 c = search needs
+
+returns-4 : tie.Need-returns-4
+returns-4 c = by-rule (at-phase _ _ _ _ _ _ (c .before .before .before .before .before .before .before .before .before .before .enum-told4 .given .1)) (c .before .before .before .before .before .before .at-leaf .ensures)
+
+same-length-9 : tie.Need-same-length-9
+same-length-9 c = search needs
+
+same-length-10 : tie.Need-same-length-10
+same-length-10 c = search needs
+
+returns-5 : tie.Need-returns-5
+returns-5 c = by-rule (at-phase _ _ _ _ _ _ (c .before .before .before .before .before .before .before .enum-told5 .given .1)) (c .before .before .before .before .finishes .ensures _)
+
+same-length-11 : tie.Need-same-length-11
+same-length-11 c = search needs
+
+same-length-12 : tie.Need-same-length-12
+same-length-12 c = search needs
+
+returns-6 : tie.Need-returns-6
+returns-6 c = by-rule (at-phase _ _ _ _ _ _ (c .before .before .before .before .before .before .before .enum-told6 .given .1)) (c .before .before .before .before .finishes2 .ensures _)
+
+pub by-phase-spec : {M : Type 1} → statement M
+by-phase-spec = tie.close (tie.spec enum-told refuses-requires enum-told-2 probe-requires enum-told-3 map-requires enum-told-4 at-leaf-requires enum-told-5 finishes-requires enum-told-6 finishes-requires-2 returns same-length same-length-2 returns-2 same-length-3 same-length-4 same-length-5 returns-3 same-length-6 same-length-7 same-length-8 returns-4 same-length-9 same-length-10 returns-5 same-length-11 same-length-12 returns-6)

@@ -1,0 +1,53 @@
+-- `finish` meets its contract: the bit, the map line's word, the ending.
+use borrow.Author.Needs.{needs}
+use Rattle.turned.proofs.Rule.{by-rule}
+use Rattle.step.proofs.Ways.{finish-is}
+use Rattle.step.proofs.finish.Statement.{statement}
+use Rattle.step.proofs.finish.Tie as tie
+
+leaf-of-requires : tie.Need-leaf-of-requires
+leaf-of-requires c κs = search needs
+
+mul-put-bit : tie.Need-mul-put-bit
+mul-put-bit c = search needs
+
+map-byte-of-requires : tie.Need-map-byte-of-requires
+map-byte-of-requires c κs = search needs
+
+add-put-bit : tie.Need-add-put-bit
+add-put-bit c = search needs
+
+map-bit-of-requires : tie.Need-map-bit-of-requires
+map-bit-of-requires c κs = search needs
+
+put-bit-requires : tie.Need-put-bit-requires
+put-bit-requires c κs = search needs
+
+map-block-requires : tie.Need-map-block-requires
+map-block-requires c κs = search needs
+
+word-requires : tie.Need-word-requires
+word-requires c κs = search needs
+
+mul-lines : tie.Need-mul-lines
+mul-lines c = search needs
+
+slice-write-lines : tie.Need-slice-write-lines
+slice-write-lines c = search needs
+
+ends-done-requires : tie.Need-ends-done-requires
+ends-done-requires c κs = search needs
+
+same-length : tie.Need-same-length
+same-length c = search needs
+
+same-length-2 : tie.Need-same-length-2
+same-length-2 c = search needs
+
+returns : tie.Need-returns
+returns c =
+    λ m. by-rule (finish-is _ _ _ _ _ _ _ _ _ _ _ _ _ m (c .before .before .before .before .before .before .before .before .before .leaf-of .ensures) (c .before .before .before .before .before .before .before .map-byte-of .ensures) (c .before .before .before .before .before .before .map-bit-of .ensures) (c .before .before .map-block .ensures) (c .before .word .ensures) (c .before .before .before .before .before .put-bit .ensures))
+    (c .ends-done .ensures _ _ m)
+
+pub finish-spec : {M : Type 1} → statement M
+finish-spec = tie.close (tie.spec leaf-of-requires mul-put-bit map-byte-of-requires add-put-bit map-bit-of-requires put-bit-requires map-block-requires word-requires mul-lines slice-write-lines ends-done-requires same-length same-length-2 returns)

@@ -1,0 +1,63 @@
+-- `turn` meets its contract: refused where a test fails, else the phase's rule.
+use borrow.Author.Needs.{needs}
+use mathlib.Core.Path.{_≡_, sym, _∙_}
+use mathlib.Core.Bool.{true}
+use borrow.Author.Tests.{not-true, not-false}
+use Rattle.rules.specs.Step.{fit}
+use Rattle.lines.specs.Lines.{rows}
+use Rattle.turned.proofs.Rule.{by-rule}
+use Rattle.step.proofs.Ways.{fit-n, fit-l, fit-x, lengths-l, turn-broken, turn-lengths, turn-steps}
+use Rattle.step.proofs.turn.Statement.{statement}
+use Rattle.step.proofs.turn.Tie as tie
+
+fit-requires : tie.Need-fit-requires
+fit-requires c κs = search needs
+
+refuses-requires : tie.Need-refuses-requires
+refuses-requires c κs = search needs
+
+same-length : tie.Need-same-length
+same-length c = search needs
+
+returns : tie.Need-returns
+returns c = by-rule (turn-broken _ _ _ _ _ _ (sym (c .before .before .fit .ensures _ _) ∙ not-true _ (c .before .if1 .taken))) (c .refuses .ensures _ _ _)
+
+lengths-right-requires : tie.Need-lengths-right-requires
+lengths-right-requires c κs = search needs
+
+refuses-requires-2 : tie.Need-refuses-requires-2
+refuses-requires-2 c κs = search needs
+
+same-length-2 : tie.Need-same-length-2
+same-length-2 c = search needs
+
+same-length-3 : tie.Need-same-length-3
+same-length-3 c = search needs
+
+same-length-4 : tie.Need-same-length-4
+same-length-4 c = search needs
+
+returns-2 : tie.Need-returns-2
+returns-2 c = by-rule (turn-lengths _ _ _ _ _ _ (sym (c .before .before .before .before .before .before .fit .ensures _ _) ∙ not-false _ (c .before .before .before .before .before .if1 .left)) (sym (c .before .before .lengths-right .ensures) ∙ not-true _ (c .before .if2 .taken))) (c .refuses2 .ensures _ _ _)
+
+by-phase-requires : tie.Need-by-phase-requires
+by-phase-requires c κs =
+    let a = c .before .before .before .before .before .before .before .before .before .before .before .before .before .args in
+    let r = rows (a .lines .now) (a .bytes .now) (a .memory .now) in
+    let f : fit (a .n) (a .l) (a .x) (a .t) r ≡ true = sym (c .before .before .before .before .before .before .before .before .fit .ensures _ _) ∙ not-false _ (c .before .before .before .before .before .before .before .if1 .left) in
+    (fit-n _ _ _ _ r f, fit-x _ _ _ _ r f, fit-l _ _ _ _ r f, lengths-l (a .n) _ _ (a .memory .now) (sym (c .before .before .before .before .lengths-right .ensures) ∙ not-false _ (c .before .before .before .if2 .left)))
+
+same-length-5 : tie.Need-same-length-5
+same-length-5 c = search needs
+
+same-length-6 : tie.Need-same-length-6
+same-length-6 c = search needs
+
+same-length-7 : tie.Need-same-length-7
+same-length-7 c = search needs
+
+returns-3 : tie.Need-returns-3
+returns-3 c = by-rule (turn-steps _ _ _ _ _ _ (sym (c .before .before .before .before .before .before .before .before .before .before .before .before .before .before .before .fit .ensures _ _) ∙ not-false _ (c .before .before .before .before .before .before .before .before .before .before .before .before .before .before .if1 .left)) (sym (c .before .before .before .before .before .before .before .before .before .before .before .lengths-right .ensures) ∙ not-false _ (c .before .before .before .before .before .before .before .before .before .before .if2 .left))) (c .before .before .before .before .before .before .by-phase .ensures)
+
+pub turn-spec : {M : Type 1} → statement M
+turn-spec = tie.close (tie.spec fit-requires refuses-requires same-length returns lengths-right-requires refuses-requires-2 same-length-2 same-length-3 same-length-4 returns-2 by-phase-requires same-length-5 same-length-6 same-length-7 returns-3)
