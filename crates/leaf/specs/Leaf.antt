@@ -1,5 +1,4 @@
 -- Probe and Leaf on rows that are lent, with their refusal where the rows are not of L lines.
-use mathlib.Core.Bool.{Bool}
 use Prim.Native.Nat.{ℕ}
 use lib.Dec.{eqb, ltb}
 use Rattle.laws.specs.Choice.{pick, both}

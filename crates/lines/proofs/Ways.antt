@@ -1,26 +1,26 @@
 -- A law for each way out of placing, bringing in and draining, from what the code has tested.
-use mathlib.Core.Path.{_≡_, refl, sym, ap, _∙_}
+use mathlib.Core.Path.{_≡_, refl, sym, _∙_}
 use mathlib.Core.List.{List}
 use mathlib.Core.Bool.{Bool, true, false}
 use mathlib.Core.Logic.{⊎-elim}
-use Prim.Native.Nat.{ℕ, zero, suc, _+_, _*_, _/_, _%_, _≤_, _<_}
+use Prim.Native.Nat.{ℕ, _+_, _*_, _/_, _%_, _≤_, _<_}
 use native.Mathlib.Omega.{arith}
 use native.Mathlib.Numerals.{add-one}
-use lib.Dec.{eqb, ltb, leb}
+use lib.Dec.{eqb, ltb}
 use lib.ListN.{length, getD, set, length-set}
-use borrow.Author.Tests.{lt-ltb, le-ltb, le-leb, lt-leb, ltb-true, ltb-false, leb-true, eqb-true, eqb-false, eq-eqb, ne-eqb}
-use Rattle.laws.specs.Choice.{pick, both, no}
-use Rattle.laws.proofs.Choice.{not-both-ways, true-or-false, both-true, both-left, both-right, no-true}
-use Rattle.laws.specs.Bytes.{part, putW}
+use borrow.Author.Tests.{lt-ltb, le-ltb, le-leb, lt-leb, ltb-true, leb-true, eqb-true, eqb-false, eq-eqb, ne-eqb}
+use Rattle.laws.specs.Choice.{both}
+use Rattle.laws.proofs.Choice.{true-or-false, both-true, both-left, both-right}
+use Rattle.laws.specs.Bytes.{putW}
 use Rattle.geometry.specs.TagMemory.{blockPlace}
 use Rattle.block.specs.Block.{blockOr0}
 use Rattle.block.proofs.Blocks.{blockOr0-fits}
-use Rattle.line.specs.Word.{used, blockOf, changed, word, cleaned}
+use Rattle.line.specs.Word.{blockOf, changed, word, cleaned}
 use Rattle.line.specs.Find.{lineOf, lowestFree, victim, after}
 use Rattle.line.proofs.Words.{changed-none}
 use Rattle.line.proofs.Find.{lowestFree-free}
 use Rattle.rules.specs.State.{Rows}
-use Rattle.rules.specs.Place.{lineBytes, rowsFit, placeLine, placeHand, writtenBack, placeMemory, Brought, filled, withMemory, bringIn, drained}
+use Rattle.rules.specs.Place.{rowsFit, placeLine, placeHand, writtenBack, placeMemory, Brought, bringIn, drained}
 use Rattle.lines.specs.Lines.{rows, placed, fetched, drainedRows, Gives, Drains}
 
 -- the rows fit: what that says
@@ -56,6 +56,10 @@ lines-enough l lines bytes h e = rw (le-leb _ _ h) e
 -- a rule whose value is known is given
 pub gives : {b : Brought} (i h : ℕ) (ls bs m : List ℕ) → b ≡ (record { line = i; hand = h; rows = rows ls bs m }) → Gives b i h ls bs m
 gives i h ls bs m e = rw e (record { line = refl; hand = refl; lines = refl; bytes = refl; memory = refl })
+
+-- what is given is the rule's value
+pub given : {b : Brought} {i h : ℕ} {ls bs m : List ℕ} → Gives b i h ls bs m → b ≡ (record { line = i; hand = h; rows = rows ls bs m })
+given g = rw (g .line, g .hand, g .lines, g .bytes, g .memory) refl
 
 -- writing line i back: a clean one, and a changed one through an array
 module _ (lines bytes memory : List ℕ) (i : ℕ) where
@@ -147,6 +151,27 @@ module _ (l hand : ℕ) (lines bytes memory : List ℕ) where
     unfolding bringIn fetched
     bringIn-fetched h = rw (le-ltb _ _ h)
 
+-- where there was no line to take, nothing changed
+pub fetched-same : (l hand b : ℕ) (r : Rows) → l ≤ fetched l hand b r .line → fetched l hand b r .rows ≡ r
+unfolding fetched
+fetched-same l hand b r h = same (ltb (placeLine l hand (r .lines) (r .bytes)) l) refl
+  where
+    same : (f : Bool) → ltb (placeLine l hand (r .lines) (r .bytes)) l ≡ f → fetched l hand b r .rows ≡ r
+    same true e =
+        let p : placeLine l hand (r .lines) (r .bytes) < l = ltb-true _ _ e in
+        let q : l ≤ placeLine l hand (r .lines) (r .bytes) = rw e at h in
+        absurd (omega arith)
+    same false e = rw e refl
+
+pub bringIn-same : (l hand b : ℕ) (lines bytes memory : List ℕ) → l ≤ bringIn l hand b (rows lines bytes memory) .line
+    → bringIn l hand b (rows lines bytes memory) .rows ≡ rows lines bytes memory
+unfolding bringIn fetched
+bringIn-same l hand b lines bytes memory h = same (ltb (lineOf lines l b) l) refl
+  where
+    same : (f : Bool) → ltb (lineOf lines l b) l ≡ f → bringIn l hand b (rows lines bytes memory) .rows ≡ rows lines bytes memory
+    same true e = rw e refl
+    same false e = rw e (fetched-same l hand b (rows lines bytes memory) (rw e at h))
+
 -- the first i of l lines of the rows r are drained
 pub record Draining (l i : ℕ) (r : Rows) (lines memory : List ℕ) : Type 0 where
   pub within : i ≤ l
@@ -186,28 +211,3 @@ module _ (l : ℕ) (lines bytes memory : List ℕ) where
   pub drainedRows-misfit : rowsFit l lines bytes ≡ false → Drains (drainedRows l (rows lines bytes memory)) lines memory
   unfolding drainedRows
   drainedRows-misfit e = rw e (record { lines = refl; memory = refl })
-
--- what is given is the rule's value
-pub given : {b : Brought} {i h : ℕ} {ls bs m : List ℕ} → Gives b i h ls bs m → b ≡ (record { line = i; hand = h; rows = rows ls bs m })
-given g = rw (g .line, g .hand, g .lines, g .bytes, g .memory) refl
-
--- where there was no line to take, nothing changed
-pub fetched-same : (l hand b : ℕ) (r : Rows) → l ≤ fetched l hand b r .line → fetched l hand b r .rows ≡ r
-unfolding fetched
-fetched-same l hand b r h = same (ltb (placeLine l hand (r .lines) (r .bytes)) l) refl
-  where
-    same : (f : Bool) → ltb (placeLine l hand (r .lines) (r .bytes)) l ≡ f → fetched l hand b r .rows ≡ r
-    same true e =
-        let p : placeLine l hand (r .lines) (r .bytes) < l = ltb-true _ _ e in
-        let q : l ≤ placeLine l hand (r .lines) (r .bytes) = rw e at h in
-        absurd (omega arith)
-    same false e = rw e refl
-
-pub bringIn-same : (l hand b : ℕ) (lines bytes memory : List ℕ) → l ≤ bringIn l hand b (rows lines bytes memory) .line
-    → bringIn l hand b (rows lines bytes memory) .rows ≡ rows lines bytes memory
-unfolding bringIn fetched
-bringIn-same l hand b lines bytes memory h = same (ltb (lineOf lines l b) l) refl
-  where
-    same : (f : Bool) → ltb (lineOf lines l b) l ≡ f → bringIn l hand b (rows lines bytes memory) .rows ≡ rows lines bytes memory
-    same true e = rw e refl
-    same false e = rw e (fetched-same l hand b (rows lines bytes memory) (rw e at h))

@@ -1,6 +1,5 @@
 -- `put_in` meets its contract: all 64 bytes are zero, or not.
 use borrow.Author.Needs.{needs}
-use native.Mathlib.Omega.{arith}
 use mathlib.Core.Path.{_∙_}
 use lib.ListN.{length-set}
 use Rattle.turned.proofs.Rule.{by-rule}

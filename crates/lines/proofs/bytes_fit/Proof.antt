@@ -1,6 +1,5 @@
 -- `bytes_fit` meets its contract: a length is 64 x L where it has no rest and its quotient is L.
 use native.Mathlib.Omega.{arith}
-use lib.ListN.{length}
 use Rattle.lines.proofs.Ways.{bytes-ragged, bytes-even}
 use Rattle.lines.proofs.bytes_fit.Statement.{statement}
 use Rattle.lines.proofs.bytes_fit.Tie as tie

@@ -2,7 +2,6 @@
 use borrow.Author.Needs.{needs}
 use mathlib.Core.Path.{_≡_, sym, _∙_}
 use mathlib.Core.Bool.{true}
-use native.Mathlib.Omega.{arith}
 use borrow.Author.Tests.{not-true, not-false}
 use Rattle.rules.specs.Place.{rowsFit}
 use Rattle.lines.proofs.Ways.{fit-lines, fit-bytes, drainedRows-fit, drainedRows-misfit}

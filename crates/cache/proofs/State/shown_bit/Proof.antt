@@ -1,0 +1,57 @@
+-- `shown_bit` meets its contract: by whether the map block has a line.
+use borrow.Author.Needs.{needs}
+use mathlib.Core.Path.{refl, sym, _∙_}
+use native.Mathlib.Omega.{arith}
+use Rattle.cache.specs.Seen.{seen}
+use Rattle.cache.proofs.Refusals.{bit-lined, bit-memory}
+use Rattle.cache.proofs.State.shown_bit.Statement.{statement}
+use Rattle.cache.proofs.State.shown_bit.Tie as tie
+
+map-number-requires : tie.Need-map-number-requires
+map-number-requires c κs = search needs
+
+cast-line-of : tie.Need-cast-line-of
+cast-line-of c = search needs
+
+line-of-requires : tie.Need-line-of-requires
+line-of-requires c κs = search needs
+
+mul-bit-at : tie.Need-mul-bit-at
+mul-bit-at c = search needs
+
+map-byte-of-requires : tie.Need-map-byte-of-requires
+map-byte-of-requires c κs = search needs
+
+add-bit-at : tie.Need-add-bit-at
+add-bit-at c = search needs
+
+map-bit-of-requires : tie.Need-map-bit-of-requires
+map-bit-of-requires c κs = search needs
+
+bit-at-requires : tie.Need-bit-at-requires
+bit-at-requires c κs = search needs
+
+returns : tie.Need-returns
+returns c = rw (c .bit-at .ensures, c .before .map-bit-of .ensures, c .before .before .map-byte-of .ensures) (sym (bit-lined (seen (c .before .before .before .before .before .before .before .before .before .before .before .args .t1)) (c .before .before .before .before .before .before .before .before .before .before .before .args .bytes .now) (c .before .before .before .before .before .before .before .before .before .before .before .args .memory .now) (c .before .before .before .before .before .before .before .before .before .before .before .args .k) (c .before .before .before .before .line-of .result) (c .before .before .before .before .line-of .ensures ∙ rw (c .before .before .before .before .before .map-number .ensures) refl) (omega arith)))
+
+leaf-bit-requires : tie.Need-leaf-bit-requires
+leaf-bit-requires c κs = search needs
+
+returns-2 : tie.Need-returns-2
+returns-2 c = rw (c .leaf-bit .ensures) (sym (bit-memory (seen (c .before .before .before .before .before .before .before .before .before .args .t1)) (c .before .before .before .before .before .before .before .before .before .args .bytes .now) (c .before .before .before .before .before .before .before .before .before .args .memory .now) (c .before .before .before .before .before .before .before .before .before .args .k) (c .before .before .line-of .result) (c .before .before .line-of .ensures ∙ rw (c .before .before .before .map-number .ensures) refl) (omega arith)))
+
+pub shown-bit-spec : {M : Type 1} → statement M
+shown-bit-spec =
+    tie.close
+    (tie.spec
+    map-number-requires
+    cast-line-of
+    line-of-requires
+    mul-bit-at
+    map-byte-of-requires
+    add-bit-at
+    map-bit-of-requires
+    bit-at-requires
+    returns
+    leaf-bit-requires
+    returns-2)

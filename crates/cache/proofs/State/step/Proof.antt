@@ -1,0 +1,69 @@
+-- `step` meets its contract: refused, or the state and the rows are those of the turn.
+use borrow.Author.Needs.{needs}
+use mathlib.Core.Path.{sym}
+use native.Mathlib.Omega.{arith}
+use Rattle.cache.specs.Seen.{seen}
+use Rattle.cache.proofs.Refusals.{step-in, step-refused, step-accepted}
+use Rattle.cache.proofs.State.step.Statement.{statement}
+use Rattle.cache.proofs.State.step.Tie as tie
+
+step-refusal-requires : tie.Need-step-refusal-requires
+step-refusal-requires c κs = search needs
+
+refuse-requires : tie.Need-refuse-requires
+refuse-requires c κs = search needs
+
+same-length : tie.Need-same-length
+same-length c = search needs
+
+same-length-2 : tie.Need-same-length-2
+same-length-2 c = search needs
+
+returns : tie.Need-returns
+returns c = rw (c .refuse .ensures .0, c .refuse .ensures .1) (sym (step-refused (seen (c .before .before .before .before .before .before .before .args .t1)) (c .before .before .before .before .before .before .before .args .bytes .now) (c .before .before .before .before .before .before .before .args .memory .now) (c .before .before .before .before .before .before .before .args .x) (c .before .before .step-refusal .result) (c .before .before .step-refusal .ensures) (omega arith)))
+
+mul-tracker : tie.Need-mul-tracker
+mul-tracker c = omega (arith, step-in (seen (c .before .before .before .before .before .before .args .t1)) (c .before .before .before .before .before .before .args .bytes .now) (c .before .before .before .before .before .before .args .memory .now) (c .before .before .before .before .before .before .args .x) (omega arith))
+
+element-copy-out-tracker : tie.Need-element-copy-out-tracker
+element-copy-out-tracker c = omega (arith, step-in (seen (c .before .before .before .before .before .before .args .t1)) (c .before .before .before .before .before .before .args .bytes .now) (c .before .before .before .before .before .before .args .memory .now) (c .before .before .before .before .before .before .args .x) (omega arith))
+
+cast-turn-row : tie.Need-cast-turn-row
+cast-turn-row c = omega (arith, step-in (seen (c .before .before .before .before .before .before .before .args .t1)) (c .before .before .before .before .before .before .before .args .bytes .now) (c .before .before .before .before .before .before .before .args .memory .now) (c .before .before .before .before .before .before .before .args .x) (omega arith))
+
+turn-row-requires : tie.Need-turn-row-requires
+turn-row-requires c κs = search needs
+
+mul-left : tie.Need-mul-left
+mul-left c = omega (arith, step-in (seen (c .before .before .before .before .before .before .before .before .before .before .before .before .before .before .before .before .args .t1)) (c .before .before .before .before .before .before .before .before .before .before .before .before .before .before .before .before .args .bytes .now) (c .before .before .before .before .before .before .before .before .before .before .before .before .before .before .before .before .args .memory .now) (c .before .before .before .before .before .before .before .before .before .before .before .before .before .before .before .before .args .x) (omega arith))
+
+element-set-from-left : tie.Need-element-set-from-left
+element-set-from-left c = omega (arith, step-in (seen (c .before .before .before .before .before .before .before .before .before .before .before .before .before .before .before .before .args .t1)) (c .before .before .before .before .before .before .before .before .before .before .before .before .before .before .before .before .args .bytes .now) (c .before .before .before .before .before .before .before .before .before .before .before .before .before .before .before .before .args .memory .now) (c .before .before .before .before .before .before .before .before .before .before .before .before .before .before .before .before .args .x) (omega arith))
+
+same-length-3 : tie.Need-same-length-3
+same-length-3 c = search needs
+
+same-length-4 : tie.Need-same-length-4
+same-length-4 c = search needs
+
+returns-2 : tie.Need-returns-2
+returns-2 c = rw (c .before .before .before .before .before .turn-row .ensures .said, c .before .before .before .before .before .turn-row .ensures .hand, c .before .before .before .before .before .turn-row .ensures .tracker, c .before .before .before .before .before .turn-row .ensures .lines, c .before .before .before .before .before .turn-row .ensures .bytes, c .before .before .before .before .before .turn-row .ensures .memory) (sym (step-accepted (seen (c .before .before .before .before .before .before .before .before .before .before .before .before .before .before .before .before .args .t1)) (c .before .before .before .before .before .before .before .before .before .before .before .before .before .before .before .before .args .bytes .now) (c .before .before .before .before .before .before .before .before .before .before .before .before .before .before .before .before .args .memory .now) (c .before .before .before .before .before .before .before .before .before .before .before .before .before .before .before .before .args .x) (omega arith)))
+
+pub step-spec : {M : Type 1} → statement M
+step-spec =
+    tie.close
+    (tie.spec
+    step-refusal-requires
+    refuse-requires
+    same-length
+    same-length-2
+    returns
+    mul-tracker
+    element-copy-out-tracker
+    cast-turn-row
+    turn-row-requires
+    mul-left
+    element-set-from-left
+    same-length-3
+    same-length-4
+    returns-2)

@@ -1,0 +1,345 @@
+// The cache and its trackers: 01's calls fresh, open, issue, step, drain and show, over a state that goes by value.
+// No public function has a `requires`: every number, every field of the state and both lent slices can be anything.
+use geometry::Geometry;
+use tracker::Answer;
+use tracker::Tracker;
+use turned::Turned;
+ghost use mathlib.Core.Path.{_≡_};
+ghost use Prim.Native.Nat.{_≤_};
+ghost use Rattle.tracker.specs.Answer.{says, no};
+ghost use Rattle.rules.specs.State.{lengthsRight, begun, zeroState};
+ghost use Rattle.rules.specs.Whole.{whole};
+ghost use Rattle.rules.specs.Step.{turnOf};
+ghost use Rattle.rules.specs.Calls.{fresh, opened, issueNo, issue, stepNo, step, drainNo, drain, showNo, shownBit, show};
+ghost use Rattle.lines.specs.Lines.{rows, drainedRows, Drains};
+ghost use Rattle.turned.specs.Steps.{Steps};
+ghost use Rattle.cache.specs.Seen.{seen, unready, unfit, did};
+
+// T trackers and L lines over n leaves: a line is a number (`line`), 0 where it is free; lines L and up, trackers T and up are not used.
+pub struct State {
+    pub n: u32,
+    pub t: u32,
+    pub l: usize,
+    pub hand: usize,
+    pub lines: [u32; 64],
+    pub trackers: [Tracker; 8],
+}
+
+// What a call hands back: the state, and beside it the answer.
+pub struct Out {
+    pub state: State,
+    pub answer: Answer,
+}
+
+// The line bytes and the memory have their lengths.
+fn lengths_right(n: u32, l: usize, bytes: &[u8], memory: &[u8]) -> bool
+    ensures { λ r. ⌜ r ≡ lengthsRight n l (now (bytes .entry)) (now (memory .entry)) ⌝ }
+{
+    if !lines::bytes_fit(l, bytes) {
+        return false;
+    }
+    memory.len() as u64 == Geometry::memory_length(n)
+}
+
+// The row of lines, lent on as a slice to be drained.
+fn drain_row(l: usize, row: &mut [u32; 64], bytes: &[u8], memory: &mut [u8])
+    ensures { λ _. ⌜ Drains (drainedRows l (rows (now (row .entry)) (now (bytes .entry)) (now (memory .entry)))) (now (row .exit)) (now (memory .exit)) ⌝ }
+{
+    lines::drain(l, row, bytes, memory);
+}
+
+// The row of lines, lent on as a slice for a step.
+fn turn_row(
+    n: u32,
+    l: usize,
+    hand: usize,
+    x: u32,
+    tracker: Tracker,
+    row: &mut [u32; 64],
+    bytes: &mut [u8],
+    memory: &mut [u8],
+) -> Turned
+    ensures { λ r. ⌜ Steps (turnOf n l hand x tracker (rows (now (row .entry)) (now (bytes .entry)) (now (memory .entry)))) (r .answer) (r .hand) (r .tracker) (now (row .exit)) (now (bytes .exit)) (now (memory .exit)) ⌝ }
+{
+    step::turn(n, l, hand, x, tracker, row, bytes, memory)
+}
+
+impl State {
+    // Every line free, every tracker idle, the hand at 0.
+    fn begin(n: u32, t: u32, l: usize) -> State
+        ensures { λ r. ⌜ seen r ≡ begun n t l ⌝ }
+    {
+        let idle = Tracker::rest();
+        State {
+            n,
+            t,
+            l,
+            hand: 0,
+            lines: [0; 64],
+            trackers: [idle; 8],
+        }
+    }
+
+    // A refusal of fresh or open: its number, and a state that is zero throughout.
+    fn none(c: u8) -> Out
+        ensures { λ r. ⌜ (seen (r .state) ≡ zeroState) × (says (r .answer) ≡ no c) ⌝ }
+    {
+        Out {
+            state: State::begin(0, 0, 0),
+            answer: Answer::No(c),
+        }
+    }
+
+    // A refusal: its number and the given state.
+    fn refuse(self, c: u8) -> Out
+        ensures { λ r. ⌜ (r .state ≡ self) × (says (r .answer) ≡ no c) ⌝ }
+    {
+        Out {
+            state: self,
+            answer: Answer::No(c),
+        }
+    }
+
+    // The state is whole; otherwise it is broken.
+    pub fn whole(self) -> bool
+        ensures { λ r. ⌜ r ≡ whole (seen self) ⌝ }
+    {
+        let trackers = self.trackers;
+        whole::whole(self.n, self.t, self.l, self.hand, &self.lines, trackers)
+    }
+
+    // Refusals 1 and 2, which come first in fresh and open; 0 for neither.
+    fn unready(n: u64, t: u64, l: u64, bytes: &[u8], memory: &[u8]) -> u8
+        ensures { λ r. ⌜ r ≡ unready n t l (now (bytes .entry)) (now (memory .entry)) ⌝ }
+    {
+        if !whole::limits(n, t, l) {
+            return 1;
+        }
+        if !lengths_right(n as u32, l as usize, bytes, memory) {
+            return 2;
+        }
+        0
+    }
+
+    // A fresh memory of n leaves, under T trackers and L lines: refusals 1, 2.
+    pub fn fresh(n: u64, t: u64, l: u64, bytes: &[u8], memory: &mut [u8]) -> Out
+        ensures { λ r. ⌜ did r (now (bytes .entry)) (now (memory .exit)) ≡ fresh n t l (now (bytes .entry)) (now (memory .entry)) ⌝ }
+    {
+        let c = State::unready(n, t, l, bytes, memory);
+        if 0 < c {
+            return State::none(c);
+        }
+        memory::clear_map(n as u32, memory);
+        Out {
+            state: State::begin(n as u32, t as u32, l as usize),
+            answer: Answer::Accepted,
+        }
+    }
+
+    // A memory of n leaves as it is, under T trackers and L lines: refusals 1, 2, 3.
+    pub fn open(n: u64, t: u64, l: u64, bytes: &[u8], memory: &[u8]) -> Out
+        ensures { λ r. ⌜ did r (now (bytes .entry)) (now (memory .entry)) ≡ opened n t l (now (bytes .entry)) (now (memory .entry)) ⌝ }
+    {
+        let c = State::unready(n, t, l, bytes, memory);
+        if 0 < c {
+            return State::none(c);
+        }
+        if !memory::is_true(n as u32, memory) {
+            return State::none(3);
+        }
+        Out {
+            state: State::begin(n as u32, t as u32, l as usize),
+            answer: Answer::Accepted,
+        }
+    }
+
+    // Refusals 4 and 2, which come first in each call on a state; 0 for neither.
+    fn unfit(self, bytes: &[u8], memory: &[u8]) -> u8
+        ensures { λ r. ⌜ r ≡ unfit (seen self) (now (bytes .entry)) (now (memory .entry)) ⌝ }
+    {
+        if !self.whole() {
+            return 4;
+        }
+        if !lengths_right(self.n, self.l, bytes, memory) {
+            return 2;
+        }
+        0
+    }
+
+    // The refusal of an issue, 4, 2, 5, 6, 7; 0 if none.
+    fn issue_refusal(self, bytes: &[u8], memory: &[u8], x: u64, g: u64) -> u8
+        ensures { λ r. ⌜ r ≡ issueNo (seen self) (now (bytes .entry)) (now (memory .entry)) x g ⌝ }
+    {
+        let c = self.unfit(bytes, memory);
+        if 0 < c {
+            return c;
+        }
+        if self.t as u64 <= x {
+            return 5;
+        }
+        if Geometry::GROUPS as u64 * (self.n as u64) <= g {
+            return 6;
+        }
+        let k = x as usize;
+        let tracker = self.trackers[k];
+        if tracker.is_idle() { 0 } else { 7 }
+    }
+
+    // A read, or a write of v, of group g, for tracker x: refusals 4, 2, 5, 6, 7.
+    pub fn issue(
+        mut self,
+        bytes: &[u8],
+        memory: &[u8],
+        x: u64,
+        write: bool,
+        bottom: bool,
+        g: u64,
+        v: u32,
+    ) -> Out
+        ensures { λ r. ⌜ did r (now (bytes .entry)) (now (memory .entry)) ≡ issue (seen self) (now (bytes .entry)) (now (memory .entry)) x write bottom g v ⌝ }
+    {
+        let c = self.issue_refusal(bytes, memory, x, g);
+        if 0 < c {
+            return self.refuse(c);
+        }
+        let k = x as usize;
+        let tracker = Tracker::begin(write, bottom, g as u32, v);
+        self.trackers[k] = tracker;
+        Out {
+            state: self,
+            answer: Answer::Accepted,
+        }
+    }
+
+    // The refusal of a step, 4, 2, 5, 8; 0 if none.
+    fn step_refusal(self, bytes: &[u8], memory: &[u8], x: u64) -> u8
+        ensures { λ r. ⌜ r ≡ stepNo (seen self) (now (bytes .entry)) (now (memory .entry)) x ⌝ }
+    {
+        let c = self.unfit(bytes, memory);
+        if 0 < c {
+            return c;
+        }
+        if self.t as u64 <= x {
+            return 5;
+        }
+        let k = x as usize;
+        let tracker = self.trackers[k];
+        if tracker.is_idle() { 8 } else { 0 }
+    }
+
+    // One step of tracker x: refusals 4, 2, 5, 8.
+    pub fn step(mut self, bytes: &mut [u8], memory: &mut [u8], x: u64) -> Out
+        ensures { λ r. ⌜ did r (now (bytes .exit)) (now (memory .exit)) ≡ step (seen self) (now (bytes .entry)) (now (memory .entry)) x ⌝ }
+    {
+        let c = self.step_refusal(bytes, memory, x);
+        if 0 < c {
+            return self.refuse(c);
+        }
+        let k = x as usize;
+        let tracker = self.trackers[k];
+        let l = self.l;
+        let r = turn_row(
+            self.n,
+            l,
+            self.hand,
+            x as u32,
+            tracker,
+            &mut self.lines,
+            bytes,
+            memory,
+        );
+        self.hand = r.hand;
+        let left = r.tracker;
+        self.trackers[k] = left;
+        let answer = r.answer;
+        Out {
+            state: self,
+            answer,
+        }
+    }
+
+    // The refusal of a drain, 4, 2, 7; 0 if none.
+    fn drain_refusal(self, bytes: &[u8], memory: &[u8]) -> u8
+        ensures { λ r. ⌜ r ≡ drainNo (seen self) (now (bytes .entry)) (now (memory .entry)) ⌝ }
+    {
+        let c = self.unfit(bytes, memory);
+        if 0 < c {
+            return c;
+        }
+        let table = self.trackers;
+        if whole::all_idle(self.t, table) { 0 } else { 7 }
+    }
+
+    // The changed lines are written to memory, lowest first, and marked clean: refusals 4, 2, 7.
+    pub fn drain(mut self, bytes: &[u8], memory: &mut [u8]) -> Out
+        ensures { λ r. ⌜ did r (now (bytes .entry)) (now (memory .exit)) ≡ drain (seen self) (now (bytes .entry)) (now (memory .entry)) ⌝ }
+    {
+        let c = self.drain_refusal(bytes, memory);
+        if 0 < c {
+            return self.refuse(c);
+        }
+        let all = self.l;
+        drain_row(all, &mut self.lines, bytes, memory);
+        Out {
+            state: self,
+            answer: Answer::Accepted,
+        }
+    }
+
+    // The refusal of showing leaf k, 4, 2, 6, 7; 0 if none.
+    pub fn show_refusal(self, bytes: &[u8], memory: &[u8], k: u64) -> u8
+        ensures { λ r. ⌜ r ≡ showNo (seen self) (now (bytes .entry)) (now (memory .entry)) k ⌝ }
+    {
+        let c = self.unfit(bytes, memory);
+        if 0 < c {
+            return c;
+        }
+        if self.n as u64 <= k {
+            return 6;
+        }
+        let trackers = self.trackers;
+        if whole::all_idle(self.t, trackers) {
+            0
+        } else {
+            7
+        }
+    }
+
+    // Leaf k's bit, read in the map block's line if it has one.
+    fn shown_bit(self, bytes: &[u8], memory: &[u8], k: u32) -> u8
+        requires { ⌜ (self .n ≤ 262144) × (self .l ≤ 64) ⌝ }
+        ensures { λ r. ⌜ r ≡ shownBit (seen self) (now (bytes .entry)) (now (memory .entry)) k ⌝ }
+    {
+        let l = self.l;
+        let j = line::line_of(&self.lines, l, Geometry::map_number(self.n, k) as u32);
+        if j < l {
+            return block::bit_at(
+                bytes,
+                Geometry::BLOCK_LEN * j + Geometry::map_byte_of(k),
+                Geometry::map_bit_of(k),
+            );
+        }
+        memory::leaf_bit(self.n, memory, k)
+    }
+
+    // Leaf k: the 64 bytes in its line; else, under bit 1, those in memory; under bit 0, and refused, an empty part of memory.
+    pub fn show<'a>(self, bytes: &'a [u8], memory: &'a [u8], k: u64) -> &'a [u8]
+        ensures { λ r. ⌜ now r ≡ show (seen self) (now (bytes .entry)) (now (memory .entry)) k ⌝ }
+    {
+        if 0 < self.show_refusal(bytes, memory, k) {
+            return &memory[0..0];
+        }
+        let leaf = k as u32;
+        let l = self.l;
+        let i = line::line_of(&self.lines, l, leaf);
+        if i < l {
+            let at = Geometry::BLOCK_LEN * i;
+            return &bytes[at..at + Geometry::BLOCK_LEN];
+        }
+        if self.shown_bit(bytes, memory, leaf) == 1 {
+            let at = Geometry::block_place(leaf);
+            return &memory[at..at + Geometry::BLOCK_LEN];
+        }
+        &memory[0..0]
+    }
+}
