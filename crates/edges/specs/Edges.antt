@@ -1,13 +1,15 @@
 -- 01 "Cases at the edges", as one table.
 use mathlib.Core.Path.{_≡_}
 use mathlib.Core.Bool.{Bool, true, false}
-use mathlib.Core.List.{List}
+use mathlib.Core.List.{List, [], _∷_}
 use Prim.Native.Nat.{ℕ, _+_, _*_, _≤_}
 use lib.ListN.{length}
+use Rattle.laws.specs.Bytes.{part}
 use Rattle.geometry.specs.TagMemory.{memoryLength}
 use Rattle.memory.specs.PlainReading.{plainReading}
 use Rattle.tracker.specs.Answer.{ok, no}
 use Rattle.rules.specs.Calls.{fresh, issue}
+use Rattle.image.specs.Encode.{headOf, blocksFor}
 
 pub record Edges : Type 0 where
   -- "n = 0 and 262,145 give 1; n = 1 and 262,144 pass"
@@ -29,3 +31,9 @@ pub record Edges : Type 0 where
   pub length-512 : memoryLength 512 ≡ 32832
   pub length-513 : memoryLength 513 ≡ 32960
   pub length-most : memoryLength 262144 ≡ 16809984
+  -- "the check of the head for n = 2, m = 0 is 05 00 E9 04"
+  pub head-check : part (headOf 65535 1 2 0) 508 4 ≡ 0x05 ∷ 0x00 ∷ 0xE9 ∷ 0x04 ∷ []
+  -- "m = 0 gives one block; m = 7 two; m = 8 three": the head and the blocks of records
+  pub blocks-0 : 1 + blocksFor 0 ≡ 1
+  pub blocks-7 : 1 + blocksFor 7 ≡ 2
+  pub blocks-8 : 1 + blocksFor 8 ≡ 3
