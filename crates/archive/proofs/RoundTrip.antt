@@ -17,7 +17,7 @@ use Rattle.memory.specs.PlainReading.{leafBit, plainGroup, plainReading}
 use Rattle.memory.specs.True.{blockAt, isTrue}
 use Rattle.memory.proofs.Reading.{plainGroup-0, plainGroup-1, refused-6}
 use Rattle.memory.proofs.Reading.{accepted as reading-accepted}
-use Rattle.sums.proofs.Splices.{take-splice}
+use Rattle.laws.proofs.Writes.{take-splice}
 use Rattle.image.specs.Encode.{Record, none, recordsBelow, recordsOf, encode, imageOf}
 use Rattle.image.specs.Test.{leavesIn, recordedIn, recordAt, imageTest}
 use Rattle.image.specs.Calls.{writingRefusal, writingAnswer, written, recordsIn, memoryOf, restoringRefusal, restored}

@@ -19,7 +19,8 @@ use Rattle.line.specs.Word.{used, blockOf, changed, has}
 use Rattle.line.specs.Find.{lineOf}
 use Rattle.rules.specs.State.{Rows}
 use Rattle.rules.specs.Place.{lineBytes}
-use Rattle.rules.proofs.Words.{has-used, has-block, has-is}
+use Rattle.line.proofs.Words.{has-block, has-used}
+use Rattle.rules.proofs.Words.{used-has}
 use Rattle.rules.proofs.Lined.{at, Has, lineOf-has, lineOf-none}
 
 -- the bytes of block b now
@@ -44,7 +45,7 @@ module _ {B l : ℕ} {r : Rows} (G : Good B l r) where
   -- the line that has the block is the line that is found
   pub found-is : (i b : ℕ) → Has (r .lines) i b → lineOf (r .lines) l b ≡ i
   unfolding lineOf
-  found-is i b h = first-is (λ j. has (at (r .lines) j) b) l i (G .low i b h) (has-is _ _ (h .is-used) (h .is-block)) (λ k q. none k q (true-or-false (has (at (r .lines) k) b)))
+  found-is i b h = first-is (λ j. has (at (r .lines) j) b) l i (G .low i b h) (used-has _ _ (h .is-used) (h .is-block)) (λ k q. none k q (true-or-false (has (at (r .lines) k) b)))
     where
       none : (k : ℕ) → k < i → (has (at (r .lines) k) b ≡ true) ⊎ (has (at (r .lines) k) b ≡ false) → has (at (r .lines) k) b ≡ false
       none k q o = ⊎-elim (λ p. absurd (let z : k ≡ i = G .one k i b (record { is-used = has-used _ _ p; is-block = has-block _ _ p }) h in omega arith)) (λ p. p) o

@@ -7,6 +7,7 @@ use Prim.Native.Nat.{ℕ, zero, suc, _+_, _<_}
 use native.Mathlib.Omega.{arith}
 use lib.ListN.{getD, replicate}
 use Rattle.laws.specs.Choice.{no as negated}
+use Rattle.laws.proofs.Writes.{getD-replicate}
 use Rattle.laws.proofs.Choice.{not-both-ways, true-or-false, both-left, both-right, both-true, no-true}
 use Rattle.laws.proofs.Splice.{lt-or-ge}
 use Rattle.laws.proofs.Scan.{all-at, all-is}
@@ -23,7 +24,7 @@ use Rattle.rules.specs.State.{State, trackerAt, lengthsRight, begun, zeroState}
 use Rattle.rules.specs.Whole.{limits}
 use Rattle.rules.specs.Calls.{Out, refused, accepted, fresh, opened, allIdle, drain}
 use Rattle.rules.specs.Run.{Call, steps, drains, Kept, kept, does, answers, ended}
-use Rattle.rules.proofs.Words.{used-free}
+use Rattle.line.proofs.Words.{free-used}
 use Rattle.rules.proofs.Lined.{at}
 use Rattle.rules.proofs.Whole.{whole-facts, l-most}
 use Rattle.rules.proofs.Keeps.{isNo}
@@ -132,11 +133,6 @@ flatly k cs a idle-all q = go (runs cs k (plainGroup (k .state .n) (k .memory)) 
         reads e g = subst (λ (n : ℕ). plainGroup n (ended k cs .memory) g ≡ r .last g) (r .n-is) (rest-reads (ended k cs) (r .last) (r .ok-still) e g)
             ∙ ap (λ (f : Flat). f .row g) (sym (r .flat-is))
 
-getD-replicate : {A : Type 0} (k i : ℕ) (a : A) → getD (replicate k a) i a ≡ a
-getD-replicate zero i a = refl
-getD-replicate (suc k) zero a = refl
-getD-replicate (suc k) (suc i) a = getD-replicate k i a
-
 -- The beginning: every line free, every tracker idle, over a true memory.
 module _ (n t l : ℕ) (bytes memory : List ℕ) (lim : limits n t l ≡ true) (right : lengthsRight n l bytes memory ≡ true) (tr : isTrue n memory ≡ true) where
   pub begun-ok : Ok (kept (accepted (begun n t l) bytes memory)) (plainGroup n memory)
@@ -144,7 +140,7 @@ module _ (n t l : ℕ) (bytes memory : List ℕ) (lim : limits n t l ≡ true) (
     is-whole = begun-whole n t l lim;
     right = right;
     agrees = begins n l (record { lines = replicate 64 0; bytes = bytes; memory = memory }) (replicate 8 idle) (bytes-right n l bytes memory right) (memory-right n l bytes memory right)
-        (l-most n t l lim) (λ i b h. not-both-ways (h .is-used) (ap used (getD-replicate 64 i 0) ∙ used-free)) (λ x. getD-replicate 8 x idle) tr;
+        (l-most n t l lim) (λ i b h. not-both-ways (h .is-used) (ap used (getD-replicate 64 i 0) ∙ free-used)) (λ x. getD-replicate 8 x idle) tr;
   }
 
 module _ (n t l : ℕ) (bytes memory : List ℕ) where

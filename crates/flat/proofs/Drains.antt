@@ -11,7 +11,7 @@ use Rattle.laws.proofs.Choice.{not-both-ways, true-or-false}
 use Rattle.line.specs.Word.{used, blockOf, changed, cleaned}
 use Rattle.rules.specs.State.{Rows}
 use Rattle.rules.specs.Place.{lineBytes, writtenBack, drained}
-use Rattle.rules.proofs.Words.{used-cleaned, blockOf-cleaned, changed-cleaned}
+use Rattle.line.proofs.Words.{blockOf-cleaned, changed-cleaned, used-cleaned}
 use Rattle.rules.proofs.Lined.{at, Has}
 use Rattle.flat.proofs.Contents.{content, Good, content-in, Change, new-or-old, change-good, change-here, change-other}
 use Rattle.flat.proofs.Rows.{Same, back-length, back-rest, back-here}

@@ -20,7 +20,8 @@ use Rattle.line.specs.Word.{used, blockOf, changed, heldBy, word}
 use Rattle.line.specs.Find.{lineOf}
 use Rattle.rules.specs.State.{Rows}
 use Rattle.rules.specs.Place.{lineBytes, rowsFit, placeLine, writtenBack, Brought, filled, withMemory, withLines, bringIn}
-use Rattle.rules.proofs.Words.{used-free, used-zero, used-word, blockOf-word, changed-word, used-heldBy, blockOf-heldBy, changed-heldBy}
+use Rattle.line.proofs.Words.{blockOf-word, changed-word, free-used, not-used, used-word}
+use Rattle.rules.proofs.Words.{blockOf-heldBy, changed-heldBy, used-heldBy}
 use Rattle.rules.proofs.Lined.{at, Has, Lined, low, lineOf-none}
 use Rattle.rules.proofs.Placed.{place-loose, place-memory, bring-found, bring-placed}
 use Rattle.flat.proofs.Views.{Has64, block-length, put-length, put-here, put-there}
@@ -29,7 +30,7 @@ use Rattle.flat.proofs.Contents.{content, Good, lined-or-not, content-i
 -- a changed line is not free
 changed-used : (w : ℕ) → changed w ≡ true → used w ≡ true
 unfolding changed
-changed-used w e = ⊎-elim (λ u. u) (λ u. absurd (not-both-ways e (ap changed (used-zero w u)))) (true-or-false (used w))
+changed-used w e = ⊎-elim (λ u. u) (λ u. absurd (not-both-ways e (ap changed (not-used w u)))) (true-or-false (used w))
 
 -- rows that have the same contents
 pub record Same (B l : ℕ) (r r' : Rows) : Type 0 where
@@ -106,10 +107,10 @@ module _ {B l : ℕ} {r : Rows} (G : Good B l r) where
     fits-word = omega (arith, p .small, p .exists)
 
     is-used : used (word b c 0) ≡ true
-    is-used = used-word b 0 fits-word (omega arith) c
+    is-used = used-word b c 0 fits-word (omega arith)
 
     is-block : blockOf (word b c 0) ≡ b
-    is-block = blockOf-word b 0 fits-word (omega arith) c
+    is-block = blockOf-word b c 0 fits-word (omega arith)
 
     placing : Change B l r i (word b c 0) (putW 64 (r .bytes) (blockPlace i) y) (writtenBack (r .lines) (r .bytes) (r .memory) i) y
     placing = record {
@@ -121,7 +122,7 @@ module _ {B l : ℕ} {r : Rows} (G : Good B l r) where
       rest = back-rest i (p .line-lt);
       exists = λ u. rw is-block (p .exists);
       alone = λ u j n h. p .nobody j (rw is-block at h);
-      clean = λ u e. p .clean (sym (changed-word b 0 fits-word (omega arith) c) ∙ e) ∙ sym (rw is-block (back-rest i (p .line-lt) b (p .exists) (p .nobody i)));
+      clean = λ u e. p .clean (sym (changed-word b c 0 fits-word (omega arith)) ∙ e) ∙ sym (rw is-block (back-rest i (p .line-lt) b (p .exists) (p .nobody i)));
     }
 
     abbrev placed : Rows
@@ -159,10 +160,10 @@ module _ {B l : ℕ} {r : Rows} (G : Good B l r) where
     b-small = omega (arith, G .exists i b h, w .small)
 
     w-used : used (word b true 0) ≡ true
-    w-used = used-word b 0 b-small (omega arith) true
+    w-used = used-word b true 0 b-small (omega arith)
 
     w-block : blockOf (word b true 0) ≡ b
-    w-block = blockOf-word b 0 b-small (omega arith) true
+    w-block = blockOf-word b true 0 b-small (omega arith)
 
     abbrev written : Rows
     written = record { lines = set (r .lines) i (word b true 0); bytes = bytes'; memory = r .memory }
@@ -180,7 +181,7 @@ module _ {B l : ℕ} {r : Rows} (G : Good B l r) where
       rest = λ d dl n. refl;
       exists = λ u. rw w-block (G .exists i b h);
       alone = λ u j n h'. n (G .one j i b (rw w-block at h') h);
-      clean = λ u e. absurd (not-both-ways (changed-word b 0 b-small (omega arith) true) e);
+      clean = λ u e. absurd (not-both-ways (changed-word b true 0 b-small (omega arith)) e);
     }
 
     pub written-good : Good B l written
@@ -206,19 +207,19 @@ module _ {B l : ℕ} {r : Rows} (G : Good B l r) where
       here = w .here;
       there = w .there;
       rest = λ d dl n. refl;
-      exists = λ u. absurd (not-both-ways u used-free);
-      alone = λ u. absurd (not-both-ways u used-free);
-      clean = λ u e. absurd (not-both-ways u used-free);
+      exists = λ u. absurd (not-both-ways u free-used);
+      alone = λ u. absurd (not-both-ways u free-used);
+      clean = λ u e. absurd (not-both-ways u free-used);
     }
 
     pub freed-good : Good B l emptied
     freed-good = change-good G freeing
 
     pub freed-other : (d : ℕ) → d < B → (d ≡ b → ⊥) → content l emptied d ≡ content l r d
-    freed-other d dl n = change-other G freeing d dl (λ h'. n (sym (h' .is-block) ∙ h .is-block)) (λ u q. absurd (not-both-ways u used-free))
+    freed-other d dl n = change-other G freeing d dl (λ h'. n (sym (h' .is-block) ∙ h .is-block)) (λ u q. absurd (not-both-ways u free-used))
 
     pub freed-had : (j d : ℕ) → Has (set (r .lines) i 0) j d → Has (r .lines) j d × (d ≡ b → ⊥)
-    freed-had j d h' = ⊎-elim (λ o. absurd (not-both-ways (o .1) used-free))
+    freed-had j d h' = ⊎-elim (λ o. absurd (not-both-ways (o .1) free-used))
         (λ o. (o .1, λ q. o .0 (G .one j i b (subst (λ (z : ℕ). Has (r .lines) j z) q (o .1)) h))) (new-or-old G freeing j d h')
 
   -- line i, which has a block, names another holder, or none

@@ -16,7 +16,7 @@ ghost use Rattle.tracker.specs.declared.Phase.the-variants.{Set};
 ghost use Rattle.rules.specs.Place.{rowsFit, filled};
 ghost use Rattle.rules.specs.Step.{goes, groupIn, letGo, newLeaf, leafRead, putIn, writeUnder1, writeUnder0};
 ghost use Rattle.lines.specs.Lines.{rows};
-ghost use Rattle.turned.specs.Steps.{Steps};
+ghost use Rattle.turned.specs.Steps.{Steps, OnAnyMemory};
 ghost use Rattle.leaf.specs.Leaf.{probeOn, leafOn};
 
 // Group g in line i.
@@ -37,7 +37,7 @@ fn let_go(lines: &mut [u32], i: usize)
 
 // Probe. Leaf in a line: a read ends with the group; a write whose group equals v ends "same". Otherwise on to Map.
 pub fn probe(l: usize, hand: usize, t: Tracker, lines: &[u32], bytes: &[u8]) -> Turned
-    ensures { λ r. ⌜ ((m : List ℕ) → Steps (probeOn l hand t (rows (now (lines .entry)) (now (bytes .entry)) m)) (r .answer) (r .hand) (r .tracker) (now (lines .entry)) (now (bytes .entry)) m) ⌝ }
+    ensures { λ r. ⌜ OnAnyMemory (λ q. probeOn l hand t q) (r .answer) (r .hand) (r .tracker) (now (lines .entry)) (now (bytes .entry)) (now (lines .entry)) (now (bytes .entry)) ⌝ }
 {
     if !lines::rows_fit(l, lines, bytes) {
         return turned::refuses(4, hand, t);

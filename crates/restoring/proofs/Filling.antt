@@ -11,7 +11,7 @@ use Rattle.laws.proofs.Put.{putW-fits}
 use Rattle.geometry.specs.TagMemory.{memoryLength, blockPlace, mapPlace, mapBitOf}
 use Rattle.block.specs.Block.{blockOr0, putBit}
 use Rattle.block.proofs.Blocks.{blockOr0-fits}
-use Rattle.sums.proofs.Splices.{splice-end}
+use Rattle.laws.proofs.Writes.{splice-end}
 use Rattle.image.specs.Encode.{Record}
 use Rattle.image.specs.Test.{leavesIn, recordedIn, recordIn, recordAt, imageTest}
 use Rattle.image.specs.Calls.{putRecord, filled, recordsIn, memoryOf, restoringRefusal, restored}

@@ -6,6 +6,7 @@ use mathlib.Core.Logic.{⊎-elim}
 use Prim.Native.Nat.{ℕ, zero, suc, _+_, _-_, _*_, _<_, _≤_}
 use native.Mathlib.Omega.{arith}
 use lib.ListN.{length, getD, replicate, length-replicate}
+use Rattle.laws.proofs.Writes.{getD-replicate}
 use Rattle.laws.proofs.Choice.{not-both-ways}
 use Rattle.geometry.specs.TagMemory.{blocks}
 use Rattle.tracker.specs.declared.Tracker.{Tracker}
@@ -14,18 +15,13 @@ use Rattle.line.specs.Word.{used, holder}
 use Rattle.rules.specs.State.{State, trackerAt, begun, zeroState, lengthsRight}
 use Rattle.rules.specs.Whole.{limits, phaseWhole, whole}
 use Rattle.rules.specs.Calls.{fresh, opened, accepted, refused}
-use Rattle.rules.proofs.Words.{used-free}
+use Rattle.line.proofs.Words.{free-used}
 use Rattle.rules.proofs.Lined.{at, Has, Lined}
 use Rattle.rules.proofs.Whole.{heldOf, heldOf-no, Tracked, Whole, facts-whole, t-most, t-least, l-least, l-most}
 
-getD-replicate : {A : Type 0} (k i : ℕ) (a : A) → getD (replicate k a) i a ≡ a
-getD-replicate zero i a = refl
-getD-replicate (suc k) zero a = refl
-getD-replicate (suc k) (suc i) a = getD-replicate k i a
-
 module _ (n t l : ℕ) (lim : limits n t l ≡ true) where
   free-line : (i : ℕ) → used (at (replicate 64 0) i) ≡ false
-  free-line i = ap used (getD-replicate 64 i 0) ∙ used-free
+  free-line i = ap used (getD-replicate 64 i 0) ∙ free-used
 
   none : (i b : ℕ) → Has (replicate 64 0) i b → ⊥
   none i b h = not-both-ways (h .is-used) (free-line i)

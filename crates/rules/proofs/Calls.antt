@@ -27,7 +27,7 @@ use Rattle.rules.specs.Whole.{limits, mapBlock, phaseWhole, whole}
 use Rattle.rules.specs.Place.{rowsFit, drained, writtenBack}
 use Rattle.rules.specs.Step.{Turned, fit, byPhase, turnOf}
 use Rattle.rules.specs.Calls.{Out, refused, accepted, fresh, opened, withTracker, withLines, issueNo, issue, stepped, stepNo, step, allIdle, drainNo, drain}
-use Rattle.rules.proofs.Words.{used-free, used-cleaned, blockOf-cleaned, holder-cleaned, holder-free}
+use Rattle.line.proofs.Words.{blockOf-cleaned, holder-cleaned, used-cleaned}
 use Rattle.rules.proofs.Lined.{at, Has, Held, Lined, low, loose-lined, same-holds}
 use Rattle.rules.proofs.Whole.{heldOf, heldOf-yes, heldOf-no, heldOf-is, Tracked, Whole, whole-facts, facts-whole, inLimits-of, t-most, l-least, l-most}
 use Rattle.rules.proofs.Placed.{written-length, held-used}

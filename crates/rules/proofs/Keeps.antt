@@ -30,7 +30,8 @@ use Rattle.rules.specs.State.{State, Rows, trackerAt, lengthsRight}
 use Rattle.rules.specs.Whole.{limits, mapBlock, phaseWhole, whole}
 use Rattle.rules.specs.Place.{lineBytes, rowsFit, placeLine, placeHand, placeMemory, Brought, filled, withMemory, withLines, bringIn}
 use Rattle.rules.specs.Step.{Turned, ends, goes, waits, bitIn, groupIn, held-by, letGo, probe, holdsMap, onMap, map, leafRead, putIn, writeUnder1, writeUnder0, newLeaf, leafWrite, finish, holding, inLine, byPhase, fit, turnOf}
-use Rattle.rules.proofs.Words.{used-heldBy, blockOf-heldBy, holder-heldBy, used-word, blockOf-word, holder-word, loose-holder, holder-free, used-free, held-holder}
+use Rattle.line.proofs.Words.{blockOf-word, free-used, holder-word, used-word}
+use Rattle.rules.proofs.Words.{blockOf-heldBy, holder-free, holder-heldBy, loose-holder, used-heldBy}
 use Rattle.rules.proofs.Lined.{at, Has, Held, Lined, low, lineOf-is, lineOf-has, lineOf-none, loose-lined, held-lined, let-go-lined, same-holds, has-other, at-other, has-here, holder-here}
 use Rattle.rules.proofs.Whole.{heldOf, heldOf-yes, heldOf-no, heldOf-is, Tracked, Whole, whole-facts, facts-whole, inLimits-of, n-least, n-most, t-most, l-least, l-most, holds-busy}
 use Rattle.rules.proofs.Placed.{Brings, brings, place-loose, place-hand, place-memory-length, fill-lined, fill-has, fill-loose, fill-keeps}
@@ -353,7 +354,7 @@ module _ (n t l hand x : ℕ) (ts : List Tracker) (r : Rows) (lim : limits n t l
           alone i q e = q (leaf-brings .lined .one i (b .line) (leafOf (u .group)) e (leaf-brings .has-it))
 
           freed : Lined (blocks n) l t (heldOf n ts) (set (b .rows .lines) (b .line) 0)
-          freed = loose-lined (leaf-brings .lined) (b .line) 0 (leaf-brings .line-lt) leaf-line-loose holder-free (λ e. absurd (not-both-ways e used-free)) (λ e. absurd (not-both-ways e used-free))
+          freed = loose-lined (leaf-brings .lined) (b .line) 0 (leaf-brings .line-lt) leaf-line-loose holder-free (λ e. absurd (not-both-ways e free-used)) (λ e. absurd (not-both-ways e free-used))
 
           changed-line : Lined (blocks n) l t (heldOf n ts) (set (b .rows .lines) (b .line) (word (leafOf (u .group)) true 0))
           changed-line = fill-lined (leaf-brings .lined) (b .line) (leafOf (u .group)) (leaf-brings .line-lt) leaf-line-loose bl small alone true
@@ -452,7 +453,7 @@ module _ (n t l hand x : ℕ) (ts : List Tracker) (r : Rows) (lim : limits n t l
         record {
           says = refl;
           hand-lt = hl;
-          lined = lets-go j (word m true 0) v j-has j-holder (used-word m 0 ml (omega arith) true) (blockOf-word m 0 ml (omega arith) true) (holder-word m 0 ml (omega arith) true);
+          lined = lets-go j (word m true 0) v j-has j-holder (used-word m true 0 ml (omega arith)) (blockOf-word m true 0 ml (omega arith)) (holder-word m true 0 ml (omega arith));
           tracked = idle-tracked;
           lines-long = simp length-set;
           bytes-long = putBit-length (r .bytes) _ _ bit;

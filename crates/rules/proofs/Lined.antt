@@ -14,7 +14,8 @@ use Rattle.laws.proofs.Splice.{lt-or-ge}
 use Rattle.laws.proofs.Scan.{first-≤, first-holds, first-before, first-is, first-none}
 use Rattle.line.specs.Word.{used, blockOf, holder, has}
 use Rattle.line.specs.Find.{lineOf}
-use Rattle.rules.proofs.Words.{used-free, has-used, has-block, has-is}
+use Rattle.line.proofs.Words.{has-block, has-used}
+use Rattle.rules.proofs.Words.{used-has}
 
 abbrev pub at : List ℕ → ℕ → ℕ
 at lines i = getD lines i 0
@@ -46,7 +47,7 @@ module _ {B l t : ℕ} {H : ℕ → ℕ} {lines : List ℕ} (v : Lined B l t H l
   -- the line that has the block is the line that is found
   pub lineOf-is : (i b : ℕ) → Has lines i b → lineOf lines l b ≡ i
   unfolding lineOf
-  lineOf-is i b h = first-is (λ j. has (at lines j) b) l i (low i b h) (has-is _ _ (h .is-used) (h .is-block)) (λ k q. none k q (true-or-false (has (at lines k) b)))
+  lineOf-is i b h = first-is (λ j. has (at lines j) b) l i (low i b h) (used-has _ _ (h .is-used) (h .is-block)) (λ k q. none k q (true-or-false (has (at lines k) b)))
     where
       none : (k : ℕ) → k < i → (has (at lines k) b ≡ true) ⊎ (has (at lines k) b ≡ false) → has (at lines k) b ≡ false
       none k q o = ⊎-elim (λ p. absurd (let z : k ≡ i = v .one k i b (record { is-used = has-used _ _ p; is-block = has-block _ _ p }) h in omega arith)) (λ p. p) o
@@ -60,7 +61,7 @@ lineOf-has lines l b q =
 pub lineOf-none : (lines : List ℕ) (l b i : ℕ) → l ≤ lineOf lines l b → i < l → Has lines i b → ⊥
 unfolding lineOf
 lineOf-none lines l b i q il h =
-    not-both-ways (has-is _ _ (h .is-used) (h .is-block)) (first-before (λ j. has (at lines j) b) l i (omega arith))
+    not-both-ways (used-has _ _ (h .is-used) (h .is-block)) (first-before (λ j. has (at lines j) b) l i (omega arith))
 
 -- The one change of a line: line i becomes w, and what is held may become H'.
 module _ {B l t : ℕ} {H : ℕ → ℕ} {lines : List ℕ} (v : Lined B l t H lines) (i w : ℕ) (il : i < l) where

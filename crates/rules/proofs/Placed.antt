@@ -23,11 +23,12 @@ use Rattle.line.specs.Word.{used, blockOf, changed, holder, held, has, word}
 use Rattle.line.specs.Find.{lineOf, lowestFree, looseFrom, victim, after}
 use Rattle.rules.specs.State.{Rows}
 use Rattle.rules.specs.Place.{lineBytes, rowsFit, placeLine, placeHand, writtenBack, placeMemory, Brought, filled, withMemory, bringIn}
-use Rattle.rules.proofs.Words.{used-free, used-zero, used-word, blockOf-word, holder-word, held-holder, holder-held, loose-holder, holder-free}
+use Rattle.line.proofs.Words.{blockOf-word, holder-word, not-used, used-word}
+use Rattle.rules.proofs.Words.{held-holder, holder-free, loose-holder}
 use Rattle.rules.proofs.Lined.{at, Has, Held, Lined, low, lineOf-is, lineOf-has, lineOf-none, loose-lined, has-here, has-other, at-other, holder-here}
 
 pub held-used : (w : ℕ) → 0 < holder w → used w ≡ true
-held-used w p = ⊎-elim (λ u. u) (λ u. absurd (let z : holder w ≡ 0 = ap holder (used-zero w u) ∙ holder-free in omega arith)) (true-or-false (used w))
+held-used w p = ⊎-elim (λ u. u) (λ u. absurd (let z : holder w ≡ 0 = ap holder (not-used w u) ∙ holder-free in omega arith)) (true-or-false (used w))
 
 loose-test : (lines : List ℕ) (l from : ℕ) → looseFrom lines l from < l → holder (at lines (looseFrom lines l from)) ≡ 0
 unfolding looseFrom
@@ -42,7 +43,7 @@ all-held lines l q i il =
 
 free-test : (lines : List ℕ) (l : ℕ) → lowestFree lines l < l → at lines (lowestFree lines l) ≡ 0
 unfolding lowestFree
-free-test lines l q = used-zero _ (no-true _ (first-holds (λ i. no (used (getD lines i 0))) l q))
+free-test lines l q = not-used _ (no-true _ (first-holds (λ i. no (used (getD lines i 0))) l q))
 
 victim-near : (lines : List ℕ) (l hand : ℕ) → looseFrom lines l hand < l → victim lines l hand ≡ looseFrom lines l hand
 unfolding victim
@@ -153,14 +154,14 @@ module _ {B l t : ℕ} {H : ℕ → ℕ} {lines : List ℕ} (v : Lined B l t H l
 
   pub fill-lined : Lined B l t H (set lines i (word b c 0))
   fill-lined =
-      let e = blockOf-word b 0 fits-word (omega arith) c in
-      loose-lined v i (word b c 0) il z (holder-word b 0 fits-word (omega arith) c) (λ u. rw e bl) (λ u j n h. alone j n (rw e at h))
+      let e = blockOf-word b c 0 fits-word (omega arith) in
+      loose-lined v i (word b c 0) il z (holder-word b c 0 fits-word (omega arith)) (λ u. rw e bl) (λ u j n h. alone j n (rw e at h))
 
   pub fill-has : Has (set lines i (word b c 0)) i b
-  fill-has = has-here v i (word b c 0) il b (used-word b 0 fits-word (omega arith) c) (blockOf-word b 0 fits-word (omega arith) c)
+  fill-has = has-here v i (word b c 0) il b (used-word b c 0 fits-word (omega arith)) (blockOf-word b c 0 fits-word (omega arith))
 
   pub fill-loose : holder (at (set lines i (word b c 0)) i) ≡ 0
-  fill-loose = holder-here v i (word b c 0) il ∙ holder-word b 0 fits-word (omega arith) c
+  fill-loose = holder-here v i (word b c 0) il ∙ holder-word b c 0 fits-word (omega arith)
 
   pub fill-keeps : (j : ℕ) → 0 < holder (at lines j) → at (set lines i (word b c 0)) j ≡ at lines j
   fill-keeps j p = at-other v i (word b c 0) il j (λ q. let y : holder (at lines j) ≡ 0 = ap (λ (k : ℕ). holder (at lines k)) q ∙ z in omega arith)

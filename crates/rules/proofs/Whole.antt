@@ -24,7 +24,8 @@ use Rattle.line.specs.Word.{used, blockOf, holder, held, has}
 use Rattle.line.specs.Find.{lineOf, lowestFree, looseFrom, victim, after}
 use Rattle.rules.specs.State.{State, trackerAt}
 use Rattle.rules.specs.Whole.{limits, mapBlock, holds, lineWhole, phaseWhole, trackerWhole, whole}
-use Rattle.rules.proofs.Words.{used-free, used-zero, held-holder, holder-held, loose-holder, holder-free}
+use Rattle.line.proofs.Words.{free-used}
+use Rattle.rules.proofs.Words.{held-holder, holder-held}
 use Rattle.rules.proofs.Lined.{at, Has, Held, Lined, low, lineOf-is, lineOf-has}
 
 -- one more than the block that a tracker holds; 0 for none
@@ -149,7 +150,7 @@ module _ (s : State) (w : whole s ≡ true) where
   free-above : (i : ℕ) → s .l ≤ i → used (at (s .lines) i) ≡ false
   free-above i q = ⊎-elim
       (λ p. no-true _ (implies-true _ _ (all-at (λ j. implies (leb (s .l) j) (no (used (getD (s .lines) j 0)))) (length (s .lines)) lines-above i p) (le-leb _ _ q)))
-      (λ p. ap used (List·getD-eq-default (s .lines) 0 p) ∙ used-free) (lt-or-ge i (length (s .lines)))
+      (λ p. ap used (List·getD-eq-default (s .lines) 0 p) ∙ free-used) (lt-or-ge i (length (s .lines)))
 
   idle-above : (x : ℕ) → s .t ≤ x → isIdle (trackerAt (s .trackers) x) ≡ true
   idle-above x q = ⊎-elim

@@ -1,4 +1,3 @@
-pub mod Splices
 pub mod Words
 pub mod Right
 pub mod One

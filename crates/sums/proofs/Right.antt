@@ -15,7 +15,7 @@ use Rattle.laws.proofs.Splice.{length-splice}
 use Rattle.laws.proofs.Put.{putW-fits}
 use Rattle.laws.proofs.Value.{length-bytes}
 use Rattle.sums.specs.Check.{sumA, sumB, checkOf, checkRight, withCheck}
-use Rattle.sums.proofs.Splices.{splice-then, splice-end}
+use Rattle.laws.proofs.Writes.{splice-then, splice-end}
 use Rattle.sums.proofs.Words.{sumA-front, sumB-front}
 
 module _ (M : ℕ) (b : List ℕ) where

@@ -11,7 +11,8 @@ use Rattle.tracker.specs.declared.Answer.{Answer}
 use Rattle.tracker.specs.declared.Answer.the-variants.{Accepted, Wait, Moved, Read, Done, Same, No}
 use Rattle.text.specs.Text.{digits, places, decimal, hex, turns, saidText, lineText, most, lineIn}
 use Rattle.text.proofs.Numbers.{length-digits, length-decimal, places-8, places-16, places-64}
-use Rattle.text.proofs.Writes.{splice-none, then-put, then-end}
+use Rattle.laws.proofs.Writes.{splice-none}
+use Rattle.text.proofs.Writes.{then-put, then-end}
 
 -- `read V turns K`, in three pieces
 module _ (m : List ℕ) (a v k : ℕ) {m1 m2 m3 : List ℕ} {p r : ℕ}

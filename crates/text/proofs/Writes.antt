@@ -1,5 +1,5 @@
 -- Laws of text put into a list: byte by byte, digit by digit, and one text after another.
-use mathlib.Core.Path.{_≡_, ap, sym, _∙_}
+use mathlib.Core.Path.{_≡_, refl, ap, sym, _∙_}
 use mathlib.Core.List.{List, [], _∷_, _++_, append-assoc}
 use Prim.Native.Nat.{ℕ, suc, _+_, _-_, _/_, _%_, _^_, _≤_, _<_}
 use native.Mathlib.Nat.{add-zero}
@@ -8,40 +8,14 @@ use native.Mathlib.Omega.{arith}
 use lib.ListN.{length, take, drop, getD, set, length-append, length-take, take-append-drop}
 use lib.Seq.{take-suc, set-at, append-snoc, length-take-le, take-at, drop-append-add, drop-drop, take-length, paste, paste-zero, paste-suc}
 use Rattle.laws.specs.Bytes.{splice}
+use Rattle.laws.proofs.Writes.{splice-none, splice-cons, splice-then}
 use Rattle.text.specs.Text.{digitText, digits}
 use Rattle.text.proofs.Numbers.{length-digits, no-digits, digit-more}
 
-pub splice-none : (m : List ℕ) (a : ℕ) → splice m a [] ≡ m
-unfolding splice
-splice-none m a = rw (add-zero a) (take-append-drop a m)
-
--- a byte before those that are there
-pub splice-cons : (m : List ℕ) (p d : ℕ) (ds : List ℕ) → suc p + length ds ≤ length m → set (splice m (suc p) ds) p d ≡ splice m p (d ∷ ds)
-unfolding splice
-splice-cons m p d ds h =
-    let l : p < length m = omega arith in
-    let n : p + suc (length ds) ≡ suc p + length ds = omega arith in
-    rw (take-suc m p 0 l, n, append-snoc (take p m) (getD m p 0) (ds ++ drop (suc p + length ds) m))
-    (set-at (take p m) (getD m p 0) (ds ++ drop (suc p + length ds) m) d p (length-take-le p m (omega arith)))
-
--- a text and another after it
-pub splice-then : (m : List ℕ) (a : ℕ) (b c : List ℕ) → a + length b ≤ length m → splice (splice m a b) (a + length b) c ≡ splice m a (b ++ c)
-unfolding splice
-splice-then m a b c h =
-    let lp : length (take a m ++ b) ≡ a + length b = simp (length-append, length-take) (omega arith) in
-    let n : a + length (b ++ c) ≡ a + length b + length c = simp length-append (omega arith) in
-    let x : take a m ++ (b ++ drop (a + length b) m) ≡ (take a m ++ b) ++ drop (a + length b) m = sym (append-assoc (take a m) b (drop (a + length b) m)) in
-    let t : take (a + length b) ((take a m ++ b) ++ drop (a + length b) m) ≡ take a m ++ b = take-at (take a m ++ b) (drop (a + length b) m) (a + length b) lp in
-    let d : drop (a + length b + length c) ((take a m ++ b) ++ drop (a + length b) m) ≡ drop (a + length b + length c) m =
-    ap (λ (k : ℕ). drop (k + length c) ((take a m ++ b) ++ drop (a + length b) m)) (sym lp)
-    ∙ drop-append-add (take a m ++ b) (drop (a + length b) m) (length c)
-    ∙ drop-drop (length c) (a + length b) m in
-    rw (x, t, d, n) (simp append-assoc)
-
--- the same of what calls give: b is put from a up to p, then c
+-- one text after another, of what calls give: b is put from a up to p, then c
 module _ (m : List ℕ) (a : ℕ) (b c : List ℕ) where
   pub then-put : {m1 m2 : List ℕ} {p : ℕ} → a + length b ≤ length m → m1 ≡ splice m a b → p ≡ a + length b → m2 ≡ splice m1 p c → m2 ≡ splice m a (b ++ c)
-  then-put h e f g = g ∙ rw (e, f) (splice-then m a b c h)
+  then-put h e f g = g ∙ rw (e, f) (splice-then m a b c (a + length b) refl h)
 
   pub then-end : {p q : ℕ} → p ≡ a + length b → q ≡ p + length c → q ≡ a + length (b ++ c)
   then-end f g = simp length-append (omega arith)

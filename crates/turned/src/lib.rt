@@ -3,12 +3,9 @@
 use tracker::Answer;
 use tracker::Phase;
 use tracker::Tracker;
-ghost use mathlib.Core.List.{List};
-ghost use Prim.Native.Nat.{ℕ};
 ghost use Rattle.tracker.specs.Answer.{says, read, done, same};
 ghost use Rattle.rules.specs.Step.{ends, goes, waits, refuses, turnsOf};
-ghost use Rattle.lines.specs.Lines.{rows};
-ghost use Rattle.turned.specs.Steps.{Steps};
+ghost use Rattle.turned.specs.Steps.{OnAnyRows};
 
 // The hand, the tracker and the answer.
 pub struct Turned {
@@ -19,7 +16,7 @@ pub struct Turned {
 
 // The tracker ends: it is idle, every field zero.
 fn ends(hand: usize, answer: Answer) -> Turned
-    ensures { λ r. ⌜ ((ls bs m : List ℕ) → Steps (ends (says answer) hand (rows ls bs m)) (r .answer) (r .hand) (r .tracker) ls bs m) ⌝ }
+    ensures { λ r. ⌜ OnAnyRows (λ q. ends (says answer) hand q) (r .answer) (r .hand) (r .tracker) ⌝ }
 {
     Turned {
         hand,
@@ -30,7 +27,7 @@ fn ends(hand: usize, answer: Answer) -> Turned
 
 // The ending of a read: the group, and one turn more.
 pub fn ends_read(hand: usize, t: Tracker, v: u32) -> Turned
-    ensures { λ r. ⌜ ((ls bs m : List ℕ) → Steps (ends (read v (turnsOf t)) hand (rows ls bs m)) (r .answer) (r .hand) (r .tracker) ls bs m) ⌝ }
+    ensures { λ r. ⌜ OnAnyRows (λ q. ends (read v (turnsOf t)) hand q) (r .answer) (r .hand) (r .tracker) ⌝ }
 {
     let turns = tracker::one_more(t.turns);
     ends(hand, Answer::Read(v, turns))
@@ -38,7 +35,7 @@ pub fn ends_read(hand: usize, t: Tracker, v: u32) -> Turned
 
 // The ending of a write that put v in, and one turn more.
 pub fn ends_done(hand: usize, t: Tracker) -> Turned
-    ensures { λ r. ⌜ ((ls bs m : List ℕ) → Steps (ends (done (turnsOf t)) hand (rows ls bs m)) (r .answer) (r .hand) (r .tracker) ls bs m) ⌝ }
+    ensures { λ r. ⌜ OnAnyRows (λ q. ends (done (turnsOf t)) hand q) (r .answer) (r .hand) (r .tracker) ⌝ }
 {
     let turns = tracker::one_more(t.turns);
     ends(hand, Answer::Done(turns))
@@ -46,7 +43,7 @@ pub fn ends_done(hand: usize, t: Tracker) -> Turned
 
 // The ending of a write whose group equals v, and one turn more.
 pub fn ends_same(hand: usize, t: Tracker) -> Turned
-    ensures { λ r. ⌜ ((ls bs m : List ℕ) → Steps (ends (same (turnsOf t)) hand (rows ls bs m)) (r .answer) (r .hand) (r .tracker) ls bs m) ⌝ }
+    ensures { λ r. ⌜ OnAnyRows (λ q. ends (same (turnsOf t)) hand q) (r .answer) (r .hand) (r .tracker) ⌝ }
 {
     let turns = tracker::one_more(t.turns);
     ends(hand, Answer::Same(turns))
@@ -54,7 +51,7 @@ pub fn ends_same(hand: usize, t: Tracker) -> Turned
 
 // The tracker goes on to another phase.
 pub fn goes(hand: usize, t: Tracker, phase: Phase) -> Turned
-    ensures { λ r. ⌜ ((ls bs m : List ℕ) → Steps (goes t phase hand (rows ls bs m)) (r .answer) (r .hand) (r .tracker) ls bs m) ⌝ }
+    ensures { λ r. ⌜ OnAnyRows (λ q. goes t phase hand q) (r .answer) (r .hand) (r .tracker) ⌝ }
 {
     Turned {
         hand,
@@ -65,7 +62,7 @@ pub fn goes(hand: usize, t: Tracker, phase: Phase) -> Turned
 
 // Nothing changes but the turn count.
 pub fn waits(hand: usize, t: Tracker) -> Turned
-    ensures { λ r. ⌜ ((ls bs m : List ℕ) → Steps (waits t hand (rows ls bs m)) (r .answer) (r .hand) (r .tracker) ls bs m) ⌝ }
+    ensures { λ r. ⌜ OnAnyRows (λ q. waits t hand q) (r .answer) (r .hand) (r .tracker) ⌝ }
 {
     Turned {
         hand,
@@ -76,7 +73,7 @@ pub fn waits(hand: usize, t: Tracker) -> Turned
 
 // Nothing changes.
 pub fn refuses(c: u8, hand: usize, t: Tracker) -> Turned
-    ensures { λ r. ⌜ ((ls bs m : List ℕ) → Steps (refuses c t hand (rows ls bs m)) (r .answer) (r .hand) (r .tracker) ls bs m) ⌝ }
+    ensures { λ r. ⌜ OnAnyRows (λ q. refuses c t hand q) (r .answer) (r .hand) (r .tracker) ⌝ }
 {
     Turned {
         hand,

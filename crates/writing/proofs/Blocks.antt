@@ -13,7 +13,7 @@ use Rattle.laws.proofs.Value.{length-bytes}
 use Rattle.block.specs.Block.{blockOr0}
 use Rattle.block.proofs.Blocks.{blockOr0-fits}
 use Rattle.sums.specs.Check.{checkOf, withCheck}
-use Rattle.sums.proofs.Splices.{splice-none, splice-then, take-splice}
+use Rattle.laws.proofs.Writes.{splice-none, splice-then, take-splice}
 use Rattle.sums.proofs.Right.{sealed}
 use Rattle.image.specs.Encode.{Record, none, recordBytes, recordsBytes, headFront, headOf, blockFront, blockOf, next7, recordBlocks, blocksFor, encode, recordOf, recordsBelow, recordsOf, imageOf}
 use Rattle.memory.specs.PlainReading.{leafBit}

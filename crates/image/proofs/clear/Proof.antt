@@ -5,7 +5,7 @@ use native.Mathlib.Omega.{arith}
 use lib.ListN.{length, length-set, replicate}
 use Rattle.laws.specs.Bytes.{splice}
 use Rattle.laws.proofs.Put.{putW-fits, putW-not}
-use Rattle.sums.proofs.Splices.{splice-none, splice-fill}
+use Rattle.laws.proofs.Writes.{splice-none, splice-fill}
 use borrow.Author.Needs.{needs}
 use Rattle.image.proofs.clear.Statement.{statement}
 use Rattle.image.proofs.clear.Tie as tie

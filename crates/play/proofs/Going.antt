@@ -1,0 +1,167 @@
+-- The loop over a chunk's lines: what holds at its first line, and after each line more.
+use mathlib.Core.Path.{_≡_, refl, sym, ap, subst, _∙_}
+use mathlib.Core.Bool.{Bool, true, false}
+use mathlib.Core.List.{List}
+use Prim.Native.Nat.{ℕ, _+_, _-_, _≤_, _<_}
+use native.Mathlib.Omega.{arith}
+use lib.Dec.{ltb}
+use lib.ListN.{length, set}
+use Rattle.laws.specs.Choice.{both}
+use Rattle.laws.specs.Bytes.{part, splice, fits}
+use Rattle.laws.specs.Scan.{all}
+use Rattle.laws.proofs.Choice.{both-left, both-right}
+use Rattle.tracker.specs.declared.Tracker.{Tracker}
+use Rattle.tracker.specs.declared.Answer.{Answer}
+use Rattle.tracker.specs.Tracker.{isIdle}
+use Rattle.tracker.specs.Answer.{Said, says, no}
+use Rattle.script.specs.Script.{Asks, drains, asksFor}
+use Rattle.text.specs.Text.{lineText, lineIn, most}
+use Rattle.rules.specs.State.{State, trackerAt, lengthsRight}
+use Rattle.rules.specs.Whole.{whole}
+use Rattle.rules.specs.Step.{Turned}
+use Rattle.rules.specs.Calls.{Out, stepped, allIdle}
+use Rattle.rules.specs.Run.{Kept}
+use Rattle.rules.proofs.Calls.{Sound}
+use Rattle.rules.proofs.Whole.{whole-facts, t-least, t-most}
+use Rattle.lines.specs.Lines.{rows}
+use Rattle.turned.specs.Steps.{Steps}
+use Rattle.play.specs.Turn.{named, lineTurn}
+use Rattle.play.specs.Play.{Played, follows, refuses, lineEnd, goesOn, after, lineDone, played}
+use Rattle.play.proofs.Chunk.{goesOn-end, taken-more, played-stops, played-turn}
+use Rattle.play.proofs.Follows.{named-lt, follows-turn, follows-kept}
+
+-- what is left to do from p on is all that was to do from `begun` on
+pub record Rest (rule : Kept → Asks → Out) (input : List ℕ) (begun p : Played) : Type 0 where
+  pub within : p .taken ≤ length input
+  pub same : played rule (length input - p .taken) input p ≡ played rule (length input) input begun
+
+module _ (rule : Kept → Asks → Out) (input : List ℕ) where
+  pub rest-start : (p : Played) → p .taken ≡ 0 → Rest rule input p p
+  rest-start p z = record { within = omega arith; same = ap (λ (f : ℕ). played rule f input p) (omega arith) }
+
+  pub rest-more : {begun p : Played} → Rest rule input begun p → goesOn input p ≡ true → Rest rule input begun (lineDone rule input p)
+  rest-more {begun} {p} r h =
+      let e = goesOn-end input p h in
+      let t = taken-more rule input p in
+      record { within = omega arith; same = played-turn rule input p h ∙ r .same }
+
+  pub rest-stops : {begun p : Played} → Rest rule input begun p → goesOn input p ≡ false → p ≡ played rule (length input) input begun
+  rest-stops {begun} {p} r h = sym (played-stops rule input p (length input - p .taken) h) ∙ r .same
+
+pub record Going (input : List ℕ) (begun p : Played) : Type 0 where
+  pub rest : Rest follows input begun p
+  pub is-whole : whole (p .kept .state) ≡ true
+  pub right : lengthsRight (p .kept .state .n) (p .kept .state .l) (p .kept .bytes) (p .kept .memory) ≡ true
+
+pub going-more : (input : List ℕ) {begun p : Played} → Going input begun p → goesOn input p ≡ true → Going input begun (lineDone follows input p)
+unfolding lineDone
+going-more input {begun} {p} g h =
+    let a : Asks = asksFor (part input (p .taken) (lineEnd input (p .taken) - p .taken)) in
+    let k : Sound (p .kept .state .n) (p .kept .state .t) (p .kept .state .l) (follows (p .kept) a) = follows-kept (p .kept .state) (p .kept .bytes) (p .kept .memory) (g .is-whole) (g .right) a in
+    record { rest = rest-more follows input (g .rest) h; is-whole = k .is-whole; right = rw (k .n-is, k .l-is) (k .right) }
+
+pub goesOn-fits : (input : List ℕ) (p : Played) → goesOn input p ≡ true → fits (p .output) (p .written) most ≡ true
+unfolding goesOn
+goesOn-fits input p h = both-left _ _ (both-right _ _ h)
+
+pub line-in : (output : List ℕ) (written k : ℕ) (said : Said) → fits output written most ≡ true → lineIn output written k said ≡ lineText k said
+unfolding lineIn
+line-in output written k said h = rw h
+
+-- a chunk under way, by its parts
+abbrev pub under : (n t l hand : ℕ) → List ℕ → List Tracker → (bytes memory : List ℕ) → (number taken : ℕ) → List ℕ → (written : ℕ) → Played
+under n t l hand lines trackers bytes memory number taken output written =
+    record {
+      kept = record { state = record { n = n; t = t; l = l; hand = hand; lines = lines; trackers = trackers }; bytes = bytes; memory = memory };
+      number = number;
+      taken = taken;
+      output = output;
+      written = written;
+    }
+
+-- the parts that a turn leaves are those of its `Out`
+told : (s : State) (number taken : ℕ) (output : List ℕ) (written e x : ℕ) (bytes memory : List ℕ) {want : Turned} {answer : Answer} {hand : ℕ} {u : Tracker} {lines bytes' memory' output' : List ℕ} {written' : ℕ}
+    → fits output written most ≡ true
+    → Steps want answer hand u lines bytes' memory'
+    → output' ≡ splice output written (lineIn output written (number + 1) (says answer))
+    → written' ≡ written + length (lineIn output written (number + 1) (says answer))
+    → under (s .n) (s .t) (s .l) hand lines (set (s .trackers) x u) bytes' memory' (number + 1) (e + 1) output' written'
+    ≡ after (record { kept = record { state = s; bytes = bytes; memory = memory }; number = number; taken = taken; output = output; written = written }) e (stepped s x want)
+told s number taken output written e x bytes memory {want} {answer} f st o v =
+    rw (o, v, line-in output written (number + 1) (says answer) f, st .said, st .hand, st .tracker, st .lines, st .bytes, st .memory) refl
+
+done-at : (rule : Kept → Asks → Out) (input : List ℕ) (p : Played) (e : ℕ) (a : Asks) → e ≡ lineEnd input (p .taken) → a ≡ asksFor (part input (p .taken) (e - p .taken))
+    → after p e (rule (p .kept) a) ≡ lineDone rule input p
+unfolding lineDone
+done-at rule input p e a ee ae = rw (ae, ee) refl
+
+-- one more line, as the code does it
+pub going-line : (input : List ℕ) {begun : Played} (n t l hand : ℕ) (lines : List ℕ) (trackers : List Tracker) (bytes memory : List ℕ) (number taken : ℕ) (output : List ℕ) (written : ℕ)
+    (e x : ℕ) (a : Asks) (rest : Bool) {answer : Answer} {hand' : ℕ} {u : Tracker} {lines' bytes' memory' output' : List ℕ} {written' : ℕ}
+    → Going input begun (under n t l hand lines trackers bytes memory number taken output written)
+    → goesOn input (under n t l hand lines trackers bytes memory number taken output written) ≡ true
+    → e ≡ lineEnd input taken
+    → a ≡ asksFor (part input taken (e - taken))
+    → x ≡ named t a
+    → (a ≡ drains → rest ≡ all (λ y. isIdle (trackerAt trackers y)) t)
+    → Steps (lineTurn n t l hand a (trackerAt trackers x) rest (rows lines bytes memory)) answer hand' u lines' bytes' memory'
+    → output' ≡ splice output written (lineIn output written (number + 1) (says answer))
+    → written' ≡ written + length (lineIn output written (number + 1) (says answer))
+    → Going input begun (under n t l hand' lines' (set trackers x u) bytes' memory' (number + 1) (e + 1) output' written')
+unfolding allIdle
+going-line input {begun} n t l hand lines trackers bytes memory number taken output written e x a rest g h ee ae xe re st o v =
+    let s : State = record { n = n; t = t; l = l; hand = hand; lines = lines; trackers = trackers } in
+    let p : Played = under n t l hand lines trackers bytes memory number taken output written in
+    let told-is = told s number taken output written e x bytes memory (goesOn-fits input p h) st o v in
+    let turned : follows (record { state = s; bytes = bytes; memory = memory }) a ≡ stepped s (named t a) (lineTurn n t l hand a (trackerAt trackers (named t a)) rest (rows lines bytes memory)) =
+    follows-turn s bytes memory (g .is-whole) (g .right) a rest re in
+    subst (λ (q : Played). Going input begun q)
+    (sym (told-is
+    ∙ ap (λ (y : ℕ). after p e (stepped s y (lineTurn n t l hand a (trackerAt trackers y) rest (rows lines bytes memory)))) xe
+    ∙ ap (λ (d : Out). after p e d) (sym turned)
+    ∙ done-at follows input p e a ee ae))
+    (going-more input g h)
+
+-- one more line that is refused, as the code does it
+pub refusing-line : (input : List ℕ) {begun : Played} (k : Kept) (number taken : ℕ) (output : List ℕ) (written e : ℕ) {output' : List ℕ} {written' : ℕ}
+    → Rest refuses input begun (record { kept = k; number = number; taken = taken; output = output; written = written })
+    → goesOn input (record { kept = k; number = number; taken = taken; output = output; written = written }) ≡ true
+    → e ≡ lineEnd input taken
+    → output' ≡ splice output written (lineIn output written (number + 1) (no 12))
+    → written' ≡ written + length (lineIn output written (number + 1) (no 12))
+    → Rest refuses input begun (record { kept = k; number = number + 1; taken = e + 1; output = output'; written = written' })
+refusing-line input {begun} k number taken output written e r h ee o v =
+    let p : Played = record { kept = k; number = number; taken = taken; output = output; written = written } in
+    subst (λ (q : Played). Rest refuses input begun q)
+    (sym (rw (o, v, line-in output written (number + 1) (no 12) (goesOn-fits input p h)) (done-at refuses input p e (asksFor (part input taken (e - taken))) ee refl)))
+    (rest-more refuses input r h)
+
+-- before the first line
+pub going-start : (input : List ℕ) (n t l hand : ℕ) (lines : List ℕ) (trackers : List Tracker) (bytes memory : List ℕ) (number : ℕ) (output : List ℕ) {ls : List ℕ} {ts : List Tracker}
+    → lines ≡ ls → trackers ≡ ts → whole (record { n = n; t = t; l = l; hand = hand; lines = ls; trackers = ts }) ≡ true → lengthsRight n l bytes memory ≡ true
+    → Going input (under n t l hand lines trackers bytes memory number 0 output 0) (under n t l hand lines trackers bytes memory number 0 output 0)
+going-start input n t l hand lines trackers bytes memory number output p q w r =
+    record { rest = rest-start follows input (under n t l hand lines trackers bytes memory number 0 output 0) refl; is-whole = rw (p, q) w; right = r }
+
+-- what the code tests is whether it goes on
+pub on-is : (input : List ℕ) (p : Played) (e : ℕ) → e ≡ lineEnd input (p .taken)
+    → both (ltb e (length input)) (both (fits (p .output) (p .written) 64) (ltb (p .number) 18446744073709551615)) ≡ goesOn input p
+unfolding goesOn
+on-is input p e q = rw q refl
+
+-- after the last line
+pub going-stops : (input : List ℕ) (n t l hand : ℕ) (lines : List ℕ) (trackers : List Tracker) (bytes memory : List ℕ) (number : ℕ) (output : List ℕ) {p : Played} {ls : List ℕ} {ts : List Tracker}
+    → lines ≡ ls → trackers ≡ ts → Going input (under n t l hand lines trackers bytes memory number 0 output 0) p → goesOn input p ≡ false
+    → p ≡ played follows (length input) input (under n t l hand ls ts bytes memory number 0 output 0)
+going-stops input n t l hand lines trackers bytes memory number output {p} {ls} a b g h =
+    rest-stops follows input (g .rest) h ∙ ap (λ (x : List ℕ). played follows (length input) input (under n t l hand x trackers bytes memory number 0 output 0)) a
+    ∙ ap (λ (x : List Tracker). played follows (length input) input (under n t l hand ls x bytes memory number 0 output 0)) b
+
+-- the tracker that a line names is in the table
+pub going-named : (input : List ℕ) {begun p : Played} → Going input begun p → (a : Asks) → named (p .kept .state .t) a < 8
+going-named input {begun} {p} g a =
+    let f = whole-facts (p .kept .state) (g .is-whole) .limits-ok in
+    let lo = t-least (p .kept .state .n) (p .kept .state .t) (p .kept .state .l) f in
+    let hi = t-most (p .kept .state .n) (p .kept .state .t) (p .kept .state .l) f in
+    let b = named-lt (p .kept .state .t) a (omega arith) in
+    omega arith

@@ -1,0 +1,6 @@
+pub mod Chunk
+pub mod Follows
+pub mod Going
+pub mod Ways
+pub mod Texts
+pub mod One
