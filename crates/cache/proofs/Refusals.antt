@@ -27,16 +27,6 @@ use Rattle.rules.proofs.Whole.{n-most, t-most, l-most, whole-facts}
 use Rattle.rules.proofs.Calls.{bytes-right, memory-right}
 use Rattle.cache.specs.Seen.{unready, unfit}
 
--- the lengths
-module _ (n l : ℕ) (bytes memory : List ℕ) where
-  pub lengths-not : eqb (length bytes) (64 * l) ≡ false → lengthsRight n l bytes memory ≡ false
-  unfolding lengthsRight both
-  lengths-not h = rw h
-
-  pub lengths-are : eqb (length bytes) (64 * l) ≡ true → lengthsRight n l bytes memory ≡ eqb (length memory) (memoryLength n)
-  unfolding lengthsRight both
-  lengths-are h = rw h
-
 -- a refusal number that is 0
 passes : (b : Bool) (k c : ℕ) → pick b k c ≡ 0 → 0 < c → (b ≡ true) × (k ≡ 0)
 passes true k c e h = (refl, e)

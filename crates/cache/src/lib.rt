@@ -7,7 +7,7 @@ use turned::Turned;
 ghost use mathlib.Core.Path.{_≡_};
 ghost use Prim.Native.Nat.{_≤_};
 ghost use Rattle.tracker.specs.Answer.{says, no};
-ghost use Rattle.rules.specs.State.{lengthsRight, begun, zeroState};
+ghost use Rattle.rules.specs.State.{begun, zeroState};
 ghost use Rattle.rules.specs.Whole.{whole};
 ghost use Rattle.rules.specs.Step.{turnOf};
 ghost use Rattle.rules.specs.Calls.{fresh, opened, issueNo, issue, stepNo, step, drainNo, drain, showNo, shownBit, show};
@@ -29,16 +29,6 @@ pub struct State {
 pub struct Out {
     pub state: State,
     pub answer: Answer,
-}
-
-// The line bytes and the memory have their lengths.
-fn lengths_right(n: u32, l: usize, bytes: &[u8], memory: &[u8]) -> bool
-    ensures { λ r. ⌜ r ≡ lengthsRight n l (now (bytes .entry)) (now (memory .entry)) ⌝ }
-{
-    if !lines::bytes_fit(l, bytes) {
-        return false;
-    }
-    memory.len() as u64 == Geometry::memory_length(n)
 }
 
 // The row of lines, lent on as a slice to be drained.
@@ -115,7 +105,7 @@ impl State {
         if !whole::limits(n, t, l) {
             return 1;
         }
-        if !lengths_right(n as u32, l as usize, bytes, memory) {
+        if !step::lengths_right(n as u32, l as usize, bytes, memory) {
             return 2;
         }
         0
@@ -160,7 +150,7 @@ impl State {
         if !self.whole() {
             return 4;
         }
-        if !lengths_right(self.n, self.l, bytes, memory) {
+        if !step::lengths_right(self.n, self.l, bytes, memory) {
             return 2;
         }
         0

@@ -3,3 +3,4 @@ pub mod Tallies
 pub mod Sheets
 pub mod Zero
 pub mod Examples
+pub mod One

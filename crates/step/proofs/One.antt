@@ -1,9 +1,10 @@
 -- Two results that the promise allows for one input are equal: both are the rule's.
-use mathlib.Core.Path.{_≡_}
+use mathlib.Core.Path.{_≡_, sym, _∙_}
+use mathlib.Core.Bool.{Bool}
 use mathlib.Core.List.{List}
 use Prim.Native.Nat.{ℕ}
 use Rattle.tracker.specs.declared.Tracker.{Tracker}
-use Rattle.rules.specs.State.{Rows}
+use Rattle.rules.specs.State.{Rows, lengthsRight}
 use Rattle.rules.specs.Step.{turnOf}
 use Rattle.lines.specs.Lines.{rows}
 use Rattle.turned.specs.declared.Turned as left
@@ -14,3 +15,6 @@ pub turn-one : (n l hand x : ℕ) (t : Tracker) (was : Rows) (r s : left.Turned)
     → Steps (turnOf n l hand x t was) (r .answer) (r .hand) (r .tracker) ls bs m
     → Steps (turnOf n l hand x t was) (s .answer) (s .hand) (s .tracker) ls′ bs′ m′ → (r ≡ s) × (rows ls bs m ≡ rows ls′ bs′ m′)
 turn-one n l hand x t was r s ls bs m ls′ bs′ m′ p q = (turned-one _ r s _ _ _ _ _ _ p q, rows-one _ r s _ _ _ _ _ _ p q)
+
+pub lengths-right-one : (n l : ℕ) (bytes memory : List ℕ) {r s : Bool} → r ≡ lengthsRight n l bytes memory → s ≡ lengthsRight n l bytes memory → r ≡ s
+lengths-right-one n l bytes memory p q = p ∙ sym q

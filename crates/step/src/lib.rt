@@ -200,7 +200,7 @@ fn fit(n: u32, l: usize, x: u32, t: Tracker, lines: &[u32]) -> bool
 }
 
 // The line bytes and memory have their lengths.
-fn lengths_right(n: u32, l: usize, bytes: &[u8], memory: &[u8]) -> bool
+pub fn lengths_right(n: u32, l: usize, bytes: &[u8], memory: &[u8]) -> bool
     ensures { λ r. ⌜ r ≡ lengthsRight n l (now (bytes .entry)) (now (memory .entry)) ⌝ }
 {
     if !lines::bytes_fit(l, bytes) {

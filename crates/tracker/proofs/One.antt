@@ -1,7 +1,12 @@
--- An answer is told by what it says, so two answers that a promise allows are equal.
-use mathlib.Core.Path.{_≡_, refl}
+-- Each promise of this crate allows one result for one input; and an answer is told by what it says.
+use mathlib.Core.Path.{_≡_, refl, sym, _∙_}
+use mathlib.Core.Bool.{Bool}
+use Prim.Native.Nat.{ℕ}
+use Rattle.tracker.specs.declared.Phase.{Phase}
+use Rattle.tracker.specs.declared.Tracker.{Tracker}
 use Rattle.tracker.specs.declared.Answer.{Answer}
 use Rattle.tracker.specs.declared.Answer.the-variants.{Accepted, Wait, Moved, Read, Done, Same, No}
+use Rattle.tracker.specs.Tracker.{idle, isIdle, issued, tick, goesTo, counted}
 use Rattle.tracker.specs.Answer.{Said, ok, wait, moved, read, done, same, no, says}
 
 -- the answer that says it
@@ -26,3 +31,21 @@ back (No c) = refl
 
 pub says-one : (a b : Answer) → says a ≡ says b → a ≡ b
 says-one a b e = cc (back a, back b)
+
+pub one-more-one : (k : ℕ) {r s : ℕ} → r ≡ tick k → s ≡ tick k → r ≡ s
+one-more-one k p q = p ∙ sym q
+
+pub rest-one : {r s : Tracker} → r ≡ idle → s ≡ idle → r ≡ s
+rest-one p q = p ∙ sym q
+
+pub begin-one : (write bottom : Bool) (g v : ℕ) {r s : Tracker} → r ≡ issued write bottom g v → s ≡ issued write bottom g v → r ≡ s
+begin-one write bottom g v p q = p ∙ sym q
+
+pub go-to-one : (t : Tracker) (phase : Phase) {r s : Tracker} → r ≡ goesTo t phase → s ≡ goesTo t phase → r ≡ s
+go-to-one t phase p q = p ∙ sym q
+
+pub count-one : (t : Tracker) {r s : Tracker} → r ≡ counted t → s ≡ counted t → r ≡ s
+count-one t p q = p ∙ sym q
+
+pub is-idle-one : (t : Tracker) {r s : Bool} → r ≡ isIdle t → s ≡ isIdle t → r ≡ s
+is-idle-one t p q = p ∙ sym q
