@@ -9,6 +9,8 @@ use lib.Dec.{eqb}
 use lib.ListN.{length, take}
 use lib.Seq.{ext-getD}
 use borrow.Author.Tests.{eq-eqb, eqb-true, eqb-false}
+use Rattle.geometry.specs.TagMemory.{groups}
+use Rattle.geometry.proofs.Places.{leafOf-lt, byteOf-lt}
 use Rattle.laws.specs.Bytes.{part, numberAt, Bytes}
 use Rattle.laws.proofs.Choice.{true-or-false}
 use Rattle.laws.proofs.Splice.{lt-or-ge}
@@ -120,9 +122,11 @@ module _ (n : ℕ) (mem : List ℕ) (h : inLimits n ≡ true) (l : length mem �
       let m : Marked n mem n p = marked n mem n p q in
       ne (ap (leafBit n mem) (e ∙ ap (λ (r : Record). r .leaf) (marked-is n mem n p m)) ∙ m .bit))
 
-  back-group : (g : ℕ) → g < 16 * n → plainGroup n back g ≡ plainGroup n mem g
+  back-group : (g : ℕ) → g < groups n → plainGroup n back g ≡ plainGroup n mem g
   back-group g q =
       let k : ℕ = leafOf g in
+      let kl : leafOf g < n = leafOf-lt n g q in
+      let bl = byteOf-lt g in
       ⊎-elim
       (λ (e : eqb (leafBit n mem k) 1 ≡ true).
       let b : leafBit n mem k ≡ 1 = eqb-true (leafBit n mem k) 1 e in
@@ -138,6 +142,7 @@ module _ (n : ℕ) (mem : List ℕ) (h : inLimits n ≡ true) (l : length mem �
       (true-or-false (eqb (leafBit n mem k) 1))
 
   back-reading : (g : ℕ) → plainReading n back g ≡ plainReading n mem g
+  unfolding groups
   back-reading g =
       ⊎-elim
       (λ (q : g < 16 * n). reading-accepted n back g h (length-memory n rs G) q ∙ back-group g q ∙ sym (reading-accepted n mem g h l q))

@@ -18,7 +18,7 @@ use Rattle.rules.specs.Calls.{fresh, opened, allIdle}
 use Rattle.rules.specs.Run.{Call, Kept, kept, does, ended}
 use Rattle.rules.proofs.Whole.{t-most}
 use Rattle.rules.proofs.Calls.{bytes-right, memory-right, lengths-right}
-use Rattle.rules.proofs.Begun.{begun-whole}
+use Rattle.rules.proofs.Begun.{begun-whole, fresh-passed, open-passed, fresh-accepted, fresh-free, open-accepted, open-free}
 use Rattle.circle.specs.Order.{Order}
 use Rattle.circle.specs.Circle.{Circle, begins}
 use Rattle.circle.proofs.Ready.{Ready}
@@ -39,24 +39,16 @@ module _ (n t l : ℕ) (bytes memory : List ℕ) where
 
   -- "A fresh memory sets every map byte to 0": its length stays
   pub fresh-rests : fresh n t l bytes memory .said ≡ ok → AtRest (kept (fresh n t l bytes memory))
-  unfolding fresh
-  fresh-rests e = at (true-or-false (limits n t l)) (true-or-false (lengthsRight n l bytes memory))
-    where
-      at : (limits n t l ≡ true) ⊎ (limits n t l ≡ false) → (lengthsRight n l bytes memory ≡ true) ⊎ (lengthsRight n l bytes memory ≡ false) → AtRest (kept (fresh n t l bytes memory))
-      at (inr w) r = absurd (ok-not-no (sym (rw w at e)))
-      at (inl w) (inr r) = absurd (ok-not-no (sym (rw (w, r) at e)))
-      at (inl w) (inl r) = rw (w, r) (record { ready = (begun-whole n t l w, lengths-right n l bytes (clearedMap n memory) (bytes-right n l bytes memory r) (length-clearedMap n memory ∙ memory-right n l bytes memory r)); all-idle = at-rest w r .all-idle })
+  fresh-rests e =
+      let c = fresh-passed n t l bytes memory e in
+      let f = fresh-free n t l bytes memory c in
+      rw (fresh-accepted n t l bytes memory c) (record { ready = (begun-whole n t l (f .0), lengths-right n l bytes (clearedMap n memory) (bytes-right n l bytes memory (f .1)) (length-clearedMap n memory ∙ memory-right n l bytes memory (f .1))); all-idle = at-rest (f .0) (f .1) .all-idle })
 
   pub opened-rests : opened n t l bytes memory .said ≡ ok → AtRest (kept (opened n t l bytes memory))
-  unfolding opened
-  opened-rests e = at (true-or-false (limits n t l)) (true-or-false (lengthsRight n l bytes memory)) (true-or-false (isTrue n memory))
-    where
-      at : (limits n t l ≡ true) ⊎ (limits n t l ≡ false) → (lengthsRight n l bytes memory ≡ true) ⊎ (lengthsRight n l bytes memory ≡ false)
-          → (isTrue n memory ≡ true) ⊎ (isTrue n memory ≡ false) → AtRest (kept (opened n t l bytes memory))
-      at (inr w) r m = absurd (ok-not-no (sym (rw w at e)))
-      at (inl w) (inr r) m = absurd (ok-not-no (sym (rw (w, r) at e)))
-      at (inl w) (inl r) (inr m) = absurd (ok-not-no (sym (rw (w, r, m) at e)))
-      at (inl w) (inl r) (inl m) = rw (w, r, m) (at-rest w r)
+  opened-rests e =
+      let c = open-passed n t l bytes memory e in
+      let f = open-free n t l bytes memory c in
+      rw (open-accepted n t l bytes memory c) (at-rest (f .0) (f .1))
 
 -- Every state of a run is ready,
 pub run-keeps : (k : Kept) → Ready k → (cs : List Call) → Ready (ended k cs)

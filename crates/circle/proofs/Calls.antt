@@ -2,21 +2,22 @@
 use mathlib.Core.Path.{_≡_, refl, sym, ap, _∙_}
 use mathlib.Core.Bool.{Bool, true, false}
 use mathlib.Core.List.{List}
-use mathlib.Core.Logic.{_⊎_, inl, inr}
+use mathlib.Core.Logic.{_⊎_, inl, inr, ⊎-elim}
 use Prim.Native.Nat.{ℕ, _*_, _<_, _≤_}
 use native.Mathlib.Omega.{arith}
 use Rattle.laws.specs.Choice.{pick}
 use Rattle.laws.proofs.Choice.{true-or-false}
-use Rattle.laws.proofs.Splice.{lt-or-ge}
+use Rattle.laws.specs.Refusal.{refusal, unless}
+use Rattle.laws.proofs.Refusal.{refused-or-not}
 use Rattle.tracker.specs.Tracker.{isIdle}
 use Rattle.tracker.specs.Tracker as Tracker
 use Rattle.tracker.specs.Answer.{ok, no}
 use Rattle.rules.specs.State.{lengthsRight}
 use Rattle.rules.specs.Whole.{whole}
-use Rattle.rules.specs.Calls.{Out, accepted, withTracker, withLines, issueNo, issue, stepNo, step, allIdle, drainNo, drain}
+use Rattle.rules.specs.Calls.{Out, accepted, withTracker, withLines, issueTests, issueNo, issue, stepTests, stepNo, step, allIdle, drainNo, drain}
 use Rattle.rules.specs.Calls as Calls
 use Rattle.rules.specs.Run.{Call, issues, steps, drains, lends, Kept, kept, elsewhere, does}
-use Rattle.rules.proofs.Calls.{issue-past, issue-group, issue-busy, issue-accepted, step-idle, step-past, drain-is, drain-busy}
+use Rattle.rules.proofs.Calls.{issue-refused, issue-accepted, issue-free, step-refused, step-free, drain-is, drain-busy}
 use Rattle.circle.specs.Circle.{trackerIn}
 use Rattle.circle.proofs.Ready.{right, Ready, issue-keeps, step-keeps, drain-keeps, never-refused}
 
@@ -47,7 +48,7 @@ lent-refuses k false a b u f = let v = f refl in record { number = v .number; sa
 
 -- a length that is wrong: 2
 wrong : (k : Kept) → whole (k .state) ≡ true → right k ≡ false → (c : Call) → Refuses k (does k c)
-unfolding does issue issueNo step stepNo drain drainNo
+unfolding does issue issueNo step stepNo drain drainNo refusal unless
 wrong k w e (issues x write bottom g v) = rw (w, e) (record { number = 2; said-it = refl; state-is = refl })
 wrong k w e (steps x) = rw (w, e) (record { number = 2; said-it = refl; state-is = refl })
 wrong k w e drains = rw (w, e) (record { number = 2; said-it = refl; state-is = refl })
@@ -61,23 +62,18 @@ module _ (k : Kept) (s : Ready k) where
 
   issue-outcome : (x : ℕ) (write bottom : Bool) (g v : ℕ) → Outcome k (issues x write bottom g v) (does k (issues x write bottom g v))
   unfolding does
-  issue-outcome x write bottom g v = at (lt-or-ge x (k .state .t)) (lt-or-ge g (16 * k .state .n)) (true-or-false (isIdle (trackerIn k x)))
-    where
-      at : (x < k .state .t) ⊎ (k .state .t ≤ x) → (g < 16 * k .state .n) ⊎ (16 * k .state .n ≤ g) → (isIdle (trackerIn k x) ≡ true) ⊎ (isIdle (trackerIn k x) ≡ false)
-          → Outcome k (issues x write bottom g v) (does k (issues x write bottom g v))
-      at (inr p) q r = rw (issue-past (k .state) (k .bytes) (k .memory) (s .0) (s .1) x write bottom g v p) (refused-out (issues x write bottom g v) 5)
-      at (inl p) (inr q) r = rw (issue-group (k .state) (k .bytes) (k .memory) (s .0) (s .1) x write bottom g v p q) (refused-out (issues x write bottom g v) 6)
-      at (inl p) (inl q) (inr r) = rw (issue-busy (k .state) (k .bytes) (k .memory) (s .0) (s .1) x write bottom g v p q r) (refused-out (issues x write bottom g v) 7)
-      at (inl p) (inl q) (inl r) = issued x write bottom g v p r (issue-accepted (k .state) (k .bytes) (k .memory) (s .0) (s .1) x write bottom g v p q r)
+  issue-outcome x write bottom g v =
+      ⊎-elim (λ e. let h = issue-free (k .state) (k .bytes) (k .memory) (s .0) (s .1) x write bottom g v e in
+      issued x write bottom g v (h .0) (h .2) (issue-accepted (k .state) (k .bytes) (k .memory) (s .0) (s .1) x write bottom g v e))
+      (λ h. rw (issue-refused (k .state) (k .bytes) (k .memory) (s .0) (s .1) x write bottom g v h) (refused-out (issues x write bottom g v) _))
+      (refused-or-not (refusal (issueTests (k .state .n) (k .state .t) x g (trackerIn k x))))
 
   step-outcome : (x : ℕ) → Outcome k (steps x) (does k (steps x))
   unfolding does
-  step-outcome x = at (lt-or-ge x (k .state .t)) (true-or-false (isIdle (trackerIn k x)))
-    where
-      at : (x < k .state .t) ⊎ (k .state .t ≤ x) → (isIdle (trackerIn k x) ≡ true) ⊎ (isIdle (trackerIn k x) ≡ false) → Outcome k (steps x) (does k (steps x))
-      at (inr p) r = rw (step-past (k .state) (k .bytes) (k .memory) (s .0) (s .1) x p) (refused-out (steps x) 5)
-      at (inl p) (inl r) = rw (step-idle (k .state) (k .bytes) (k .memory) (s .0) (s .1) x p r) (refused-out (steps x) 8)
-      at (inl p) (inr r) = stepped x p r
+  step-outcome x =
+      ⊎-elim (λ e. let h = step-free (k .state) (k .bytes) (k .memory) (s .0) (s .1) x e in stepped x (h .0) (h .1))
+      (λ h. rw (step-refused (k .state) (k .bytes) (k .memory) (s .0) (s .1) x h) (refused-out (steps x) _))
+      (refused-or-not (refusal (stepTests (k .state .t) x (trackerIn k x))))
 
   drain-outcome : Outcome k drains (does k drains)
   unfolding does

@@ -6,6 +6,8 @@ use mathlib.Core.List.{_∷_, _++_}
 use Prim.Native.Nat.{ℕ, _<_}
 use native.Mathlib.Omega.{arith}
 use lib.ListN.{replicate}
+use Rattle.geometry.specs.TagMemory.{leafOf, byteOf, groups, mapBlockOf, mapByteOf, mapBitOf, mapBlocks}
+use Rattle.laws.specs.Refusal.{refusal, unless}
 use Rattle.laws.specs.Choice.{both, implies, no}
 use Rattle.laws.specs.Bytes.{part, splice, fits, putW, value, bytes, numberAt}
 use Rattle.laws.specs.Scan.{first, all}
@@ -41,7 +43,7 @@ abbrev two : Kept
 two = kept (fresh 2 2 3 (replicate 192 7) (replicate 192 9))
 
 pub reached-two : (write bottom : Bool) → Reached 2 write bottom
-unfolding both implies no part splice fits putW value bytes numberAt first all bitOf withBit inLimits bitAt putBit allZero blockOr0 clearedMap leafBit trueAt isTrue used blockOf changed holder held has word heldBy cleaned lineOf lowestFree looseFrom victim after lengthsRight limits holds lineWhole trackerWhole whole rowsFit placeLine placeHand writtenBack placeMemory bringIn drained probe onMap map leafRead putIn writeUnder1 writeUnder0 leafWrite finish inLine fit turnOf fresh opened issueNo issue stepNo step allIdle drainNo drain does next
+unfolding both implies no refusal unless leafOf byteOf groups mapBlockOf mapByteOf mapBitOf mapBlocks part splice fits putW value bytes numberAt first all bitOf withBit inLimits bitAt putBit allZero blockOr0 clearedMap leafBit trueAt isTrue used blockOf changed holder held has word heldBy cleaned lineOf lowestFree looseFrom victim after lengthsRight limits holds lineWhole trackerWhole whole rowsFit placeLine placeHand writtenBack placeMemory bringIn drained probe onMap map leafRead putIn writeUnder1 writeUnder0 leafWrite finish inLine fit turnOf fresh opened issueNo issue stepNo step allIdle drainNo drain does next
 reached-two false false =
     let r0 = begun 2 two 1 refl refl refl (omega arith) in
     let r1 = issued r0 1 true false 17 10 refl in  -- 1 is to write
@@ -102,7 +104,7 @@ abbrev one : Kept
 one = kept (opened 1 1 2 (replicate 128 7) ((5 ∷ replicate 63 0) ++ (1 ∷ replicate 63 0)))
 
 pub reached-one : (write bottom : Bool) → Reached 1 write bottom
-unfolding both implies no part splice fits putW value bytes numberAt first all bitOf withBit inLimits bitAt putBit allZero blockOr0 clearedMap leafBit trueAt isTrue used blockOf changed holder held has word heldBy cleaned lineOf lowestFree looseFrom victim after lengthsRight limits holds lineWhole trackerWhole whole rowsFit placeLine placeHand writtenBack placeMemory bringIn drained probe onMap map leafRead putIn writeUnder1 writeUnder0 leafWrite finish inLine fit turnOf fresh opened issueNo issue stepNo step allIdle drainNo drain does next
+unfolding both implies no refusal unless leafOf byteOf groups mapBlockOf mapByteOf mapBitOf mapBlocks part splice fits putW value bytes numberAt first all bitOf withBit inLimits bitAt putBit allZero blockOr0 clearedMap leafBit trueAt isTrue used blockOf changed holder held has word heldBy cleaned lineOf lowestFree looseFrom victim after lengthsRight limits holds lineWhole trackerWhole whole rowsFit placeLine placeHand writtenBack placeMemory bringIn drained probe onMap map leafRead putIn writeUnder1 writeUnder0 leafWrite finish inLine fit turnOf fresh opened issueNo issue stepNo step allIdle drainNo drain does next
 reached-one false false =
     let r0 = begun 1 one 0 refl refl refl (omega arith) in
     let r1 = issued r0 0 false false 0 0 refl in  -- to read

@@ -7,6 +7,8 @@ use native.Mathlib.Omega.{arith}
 use borrow.Author.Tests.{le-leb, lt-leb, eq-eqb, le-ltb, lt-ltb}
 use lib.Dec.{leb}
 use lib.ListN.{length}
+use Rattle.geometry.specs.TagMemory.{groups}
+use Rattle.laws.specs.Refusal.{refusal, unless}
 use Rattle.laws.specs.Choice.{pick, both}
 use Rattle.laws.proofs.Choice.{both-true, both-false-left, both-false-right}
 use Rattle.geometry.specs.TagMemory.{inLimits, memoryLength}
@@ -19,7 +21,7 @@ use Rattle.rules.specs.State.{lengthsRight, begun}
 use Rattle.rules.specs.Whole.{limits}
 use Rattle.rules.specs.Calls.{Out, fresh, issue}
 use Rattle.rules.proofs.Begun.{begun-whole}
-use Rattle.rules.proofs.Calls.{lengths-right, issue-accepted, issue-group}
+use Rattle.rules.proofs.Calls.{lengths-right, issue-accepted, issue-refused}
 use Rattle.archive.proofs.Facts.{head-check, blocks-0, blocks-7, blocks-8}
 use Rattle.edges.specs.Edges.{Edges}
 
@@ -41,15 +43,15 @@ limits-equal n t =
     both-false-right _ _ (both-false-right _ _ (both-false-left _ _ (lt-leb _ _ q)))
 
 refused-1 : (n t l : ℕ) (bytes memory : List ℕ) → limits n t l ≡ false → fresh n t l bytes memory .said ≡ no 1
-unfolding fresh
+unfolding fresh refusal unless
 refused-1 n t l bytes memory e = rw e
 
 passes : (n t l : ℕ) (bytes memory : List ℕ) → limits n t l ≡ true → lengthsRight n l bytes memory ≡ true → fresh n t l bytes memory .said ≡ ok
-unfolding fresh
+unfolding fresh refusal unless
 passes n t l bytes memory e q = rw (e, q)
 
 begins : (n t l : ℕ) (bytes memory : List ℕ) → limits n t l ≡ true → lengthsRight n l bytes memory ≡ true → fresh n t l bytes memory .state ≡ begun n t l
-unfolding fresh
+unfolding fresh refusal unless
 begins n t l bytes memory e q = rw (e, q)
 
 module _ (bytes memory : List ℕ) (p : length bytes ≡ 128) (q : length memory ≡ 128) where
@@ -60,12 +62,14 @@ module _ (bytes memory : List ℕ) (p : length bytes ≡ 128) (q : length memory
   right = lengths-right 1 2 bytes memory p (q ∙ sym length-1)
 
   last-group : (write bottom : Bool) (v : ℕ) → issue (fresh 1 1 2 bytes memory .state) bytes memory 0 write bottom 15 v .said ≡ ok
+  unfolding refusal groups
   last-group write bottom v =
-      rw (begins 1 1 2 bytes memory one-leaf right, issue-accepted (begun 1 1 2) bytes memory (begun-whole 1 1 2 one-leaf) right 0 write bottom 15 v (omega arith) (omega arith) refl)
+      rw (begins 1 1 2 bytes memory one-leaf right, issue-accepted (begun 1 1 2) bytes memory (begun-whole 1 1 2 one-leaf) right 0 write bottom 15 v refl)
 
   past-group : (write bottom : Bool) (v : ℕ) → issue (fresh 1 1 2 bytes memory .state) bytes memory 0 write bottom 16 v .said ≡ no 6
+  unfolding refusal groups
   past-group write bottom v =
-      rw (begins 1 1 2 bytes memory one-leaf right, issue-group (begun 1 1 2) bytes memory (begun-whole 1 1 2 one-leaf) right 0 write bottom 16 v (omega arith) (omega arith))
+      rw (begins 1 1 2 bytes memory one-leaf right, issue-refused (begun 1 1 2) bytes memory (begun-whole 1 1 2 one-leaf) right 0 write bottom 16 v (omega arith))
 
 pub edges : Edges
 edges = record {

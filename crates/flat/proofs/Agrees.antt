@@ -9,6 +9,10 @@ use native.Mathlib.Decide.{ℕ-discrete}
 use borrow.Author.Tests.{ne-eqb}
 use lib.ListN.{length, set}
 use lib.Seq.{getD-set-same, getD-set-other}
+use Rattle.tracker.specs.Tracker.{atFinish}
+use Rattle.tracker.proofs.Phases.{idle-unfinished}
+use Rattle.geometry.proofs.Places.{leafOf-lt, mapBlockOf-lt, mapBlockOf-bit, mapByteOf-lt, mapBitOf-lt, map-one}
+use Rattle.geometry.specs.TagMemory.{groups}
 use Rattle.laws.specs.Choice.{pick}
 use Rattle.laws.proofs.Choice.{not-both-ways}
 use Rattle.geometry.specs.TagMemory.{leafOf, byteOf, mapBlockOf, mapByteOf, mapBitOf, mapBlocks, blocks}
@@ -30,14 +34,6 @@ use Rattle.flat.proofs.Rows.{content-length}
 abbrev pub bitOn : List ℕ → ℕ → ℕ
 bitOn c k = bitAt c (mapByteOf k) (mapBitOf k)
 
-abbrev pub atFinish : Phase → Bool
-atFinish Idle = false
-atFinish Probe = false
-atFinish Map = false
-atFinish Leaf = false
-atFinish Set = true
-atFinish Clear = true
-
 -- the tracker is at Finish for leaf k
 pub record Finishes (u : Tracker) (k : ℕ) : Type 0 where
   pub is-there : atFinish (u .phase) ≡ true
@@ -55,7 +51,7 @@ Fits row u Clear = tagged row (leafOf (u .group)) ≡ false
 pub record Agrees (n l : ℕ) (r : Rows) (ts : List Tracker) (row : Row) : Type 0 where
   pub good : Good (blocks n) l r
   -- a leaf with a tag has the row's groups; no other leaf is in a line
-  pub live : (g : ℕ) → g < 16 * n → tagged row (leafOf g) ≡ true → row g ≡ groupAt (content l r (leafOf g)) (byteOf g)
+  pub live : (g : ℕ) → g < groups n → tagged row (leafOf g) ≡ true → row g ≡ groupAt (content l r (leafOf g)) (byteOf g)
   pub lined : (i k : ℕ) → k < n → Has (r .lines) i k → tagged row k ≡ true
   pub past : (k : ℕ) → n ≤ k → tagged row k ≡ false
   -- a bit says whether its leaf has a tag, unless a tracker is about to set or clear it
@@ -63,21 +59,8 @@ pub record Agrees (n l : ℕ) (r : Rows) (ts : List Tracker) (row : Row) : Type 
   pub fits : (x : ℕ) → Fits row (trackerAt ts x) (trackerAt ts x .phase)
   pub small : (x : ℕ) → trackerAt ts x .value < 4294967296
 
-pub finish-holds : (p : Phase) → atFinish p ≡ true → holdsAt p ≡ true
-finish-holds Idle e = absurd (not-both-ways e refl)
-finish-holds Probe e = absurd (not-both-ways e refl)
-finish-holds Map e = absurd (not-both-ways e refl)
-finish-holds Leaf e = refl
-finish-holds Set e = refl
-finish-holds Clear e = refl
-
 pub finish-busy : (p : Phase) → isIdleAt p ≡ true → atFinish p ≡ true → ⊥
-finish-busy Idle i f = not-both-ways f refl
-finish-busy Probe i f = not-both-ways f refl
-finish-busy Map i f = not-both-ways f refl
-finish-busy Leaf i f = not-both-ways f refl
-finish-busy Set i f = not-both-ways i refl
-finish-busy Clear i f = not-both-ways i refl
+finish-busy p i f = not-both-ways f (idle-unfinished p i)
 
 -- a tracker that holds nothing, or another leaf's map block, does not mind what becomes of a leaf
 fits-other : (row row' : Row) (u : Tracker) (p : Phase) → (holdsAt p ≡ true → tagged row' (leafOf (u .group)) ≡ tagged row (leafOf (u .group))) → Fits row u p → Fits row' u p
@@ -93,10 +76,10 @@ pub agrees-rows : {n l : ℕ} {r r' : Rows} {ts : List Tracker} {row : Row} → 
     → ((i k : ℕ) → k < n → Has (r' .lines) i k → tagged row k ≡ true) → Agrees n l r' ts row
 agrees-rows A G same lined' = record {
   good = G;
-  live = λ g q e. A .live g q e ∙ ap (λ (c : List ℕ). groupAt c (byteOf g)) (sym (same (leafOf g) (omega arith)));
+  live = λ g q e. A .live g q e ∙ ap (λ (c : List ℕ). groupAt c (byteOf g)) (sym (same (leafOf g) (omega (arith, leafOf-lt _ g q))));
   lined = lined';
   past = A .past;
-  bits = λ k q none. ap (λ (c : List ℕ). bitOn c k) (same (_ + mapBlockOf k) (omega arith)) ∙ A .bits k q none;
+  bits = λ k q none. ap (λ (c : List ℕ). bitOn c k) (same (_ + mapBlockOf k) (omega (arith, mapBlockOf-bit _ k q))) ∙ A .bits k q none;
   fits = A .fits;
   small = A .small;
 }
@@ -130,16 +113,16 @@ module _ {n l : ℕ} {r : Rows} {ts : List Tracker} {row : Row} (A : Agrees n l 
       → ((k : ℕ) → Finishes (trackerAt ts x) k → ⊥) → Fits row u' (u' .phase) → Agrees n l r' (set ts x u') row
   agrees-same {r'} G same lined' nf ft = record {
     good = G;
-    live = λ g q e. A .live g q e ∙ ap (λ (c : List ℕ). groupAt c (byteOf g)) (sym (same (leafOf g) (omega arith)));
+    live = λ g q e. A .live g q e ∙ ap (λ (c : List ℕ). groupAt c (byteOf g)) (sym (same (leafOf g) (omega (arith, leafOf-lt _ g q))));
     lined = lined';
     past = A .past;
-    bits = λ k q none. ap (λ (c : List ℕ). bitOn c k) (same (n + mapBlockOf k) (omega arith)) ∙ A .bits k q (nobody-before k (nf k) none);
+    bits = λ k q none. ap (λ (c : List ℕ). bitOn c k) (same (n + mapBlockOf k) (omega (arith, mapBlockOf-bit n k q))) ∙ A .bits k q (nobody-before k (nf k) none);
     fits = each (λ z. Fits row z (z .phase)) ft (λ y q. A .fits y);
     small = each (λ z. z .value < 4294967296) sm (λ y q. A .small y);
   }
 
   -- Group g of leaf k becomes v; only tracker x holds the leaf's map block.
-  module _ (g v : ℕ) (gl : g < 16 * n)
+  module _ (g v : ℕ) (gl : g < groups n)
       (alone : (y : ℕ) → (y ≡ x → ⊥) → holdsAt (trackerAt ts y .phase) ≡ true → mapBlock n (trackerAt ts y .group) ≡ mapBlock n g → ⊥)
       (nf : (k : ℕ) → Finishes (trackerAt ts x) k → ⊥) where
     far : (h : ℕ) → (leafOf h ≡ leafOf g → ⊥) → put row g v h ≡ row h
@@ -157,21 +140,21 @@ module _ {n l : ℕ} {r : Rows} {ts : List Tracker} {row : Row} (A : Agrees n l 
       good = G;
       live = λ h q e. lives h q e (ℕ-discrete (leafOf h) (leafOf g));
       lined = lined';
-      past = λ k q. far-tags k (λ e. omega arith) ∙ A .past k q;
+      past = λ k q. far-tags k (λ e. omega (arith, leafOf-lt n g gl)) ∙ A .past k q;
       bits = λ k q none. bit k q none (ℕ-discrete k (leafOf g)) or;
       fits = each (λ z. Fits (put row g v) z (z .phase)) ft (λ y q. fits-other row (put row g v) (trackerAt ts y) (trackerAt ts y .phase) (λ hy. keeps y q hy) (A .fits y));
       small = each (λ z. z .value < 4294967296) sm (λ y q. A .small y);
     }
       where
-        lives : (h : ℕ) → h < 16 * n → tagged (put row g v) (leafOf h) ≡ true → Dec (leafOf h ≡ leafOf g) → put row g v h ≡ groupAt (content l r' (leafOf h)) (byteOf h)
+        lives : (h : ℕ) → h < groups n → tagged (put row g v) (leafOf h) ≡ true → Dec (leafOf h ≡ leafOf g) → put row g v h ≡ groupAt (content l r' (leafOf h)) (byteOf h)
         lives h q e (yes p) = here (rw p at e) h p ∙ ap (λ (k : ℕ). groupAt (content l r' k) (byteOf h)) (sym p)
-        lives h q e (no p) = far h p ∙ A .live h q (sym (far-tags (leafOf h) p) ∙ e) ∙ ap (λ (c : List ℕ). groupAt c (byteOf h)) (sym (same (leafOf h) (omega arith) p))
+        lives h q e (no p) = far h p ∙ A .live h q (sym (far-tags (leafOf h) p) ∙ e) ∙ ap (λ (c : List ℕ). groupAt c (byteOf h)) (sym (same (leafOf h) (omega (arith, leafOf-lt n h q)) p))
 
         keeps : (y : ℕ) → (y ≡ x → ⊥) → holdsAt (trackerAt ts y .phase) ≡ true → tagged (put row g v) (leafOf (trackerAt ts y .group)) ≡ tagged row (leafOf (trackerAt ts y .group))
         keeps y q hy = far-tags (leafOf (trackerAt ts y .group)) (λ p. alone y q hy (ap (λ (k : ℕ). n + mapBlockOf k) p))
 
         map-same : (k : ℕ) → k < 512 * mapBlocks n → bitOn (content l r' (n + mapBlockOf k)) k ≡ bitOn (content l r (n + mapBlockOf k)) k
-        map-same k q = ap (λ (c : List ℕ). bitOn c k) (same (n + mapBlockOf k) (omega arith) (λ e. omega arith))
+        map-same k q = ap (λ (c : List ℕ). bitOn c k) (same (n + mapBlockOf k) (omega (arith, mapBlockOf-bit n k q)) (λ e. omega (arith, leafOf-lt n g gl)))
 
         bit : (k : ℕ) → k < 512 * mapBlocks n → ((y : ℕ) → Finishes (trackerAt (set ts x u') y) k → ⊥) → Dec (k ≡ leafOf g)
             → (Finishes u' (leafOf g)) ⊎ (tagged (put row g v) (leafOf g) ≡ tagged row (leafOf g)) → bitOn (content l r' (n + mapBlockOf k)) k ≡ pick (tagged (put row g v) k) 1 0
@@ -187,7 +170,7 @@ module _ {n l : ℕ} {r : Rows} {ts : List Tracker} {row : Row} (A : Agrees n l 
         → Fits row u' (u' .phase) → Agrees n l r' (set ts x u') row
     agrees-bit {r'} G same here lined' ft = record {
       good = G;
-      live = λ g q e. A .live g q e ∙ ap (λ (c : List ℕ). groupAt c (byteOf g)) (sym (same (leafOf g) (omega arith) (λ p. omega arith)));
+      live = λ g q e. A .live g q e ∙ ap (λ (c : List ℕ). groupAt c (byteOf g)) (sym (same (leafOf g) (omega (arith, leafOf-lt _ g q)) (λ p. omega (arith, leafOf-lt _ g q))));
       lined = lined';
       past = A .past;
       bits = λ j q none. bit j q none (ℕ-discrete (mapBlockOf j) (mapBlockOf k)) (ℕ-discrete j k);
@@ -196,19 +179,19 @@ module _ {n l : ℕ} {r : Rows} {ts : List Tracker} {row : Row} (A : Agrees n l 
     }
       where
         long : length (content l r (n + mapBlockOf k)) ≡ 64
-        long = content-length (A .good) (n + mapBlockOf k) (omega arith)
+        long = content-length (A .good) (n + mapBlockOf k) (omega (arith, mapBlockOf-lt n k kl))
 
         was : (j : ℕ) → j < 512 * mapBlocks n → (j ≡ k → ⊥) → ((y : ℕ) → Finishes (trackerAt (set ts x u') y) j → ⊥) → bitOn (content l r (n + mapBlockOf j)) j ≡ pick (tagged row j) 1 0
         was j q ne none = A .bits j q (nobody-before j (λ f. ne (own j f)) none)
 
         other : (j : ℕ) → mapBlockOf j ≡ mapBlockOf k → (j ≡ k → ⊥) → Dec (mapByteOf j ≡ mapByteOf k)
             → bitOn (putBit (content l r (n + mapBlockOf k)) (mapByteOf k) (mapBitOf k) v) j ≡ bitOn (content l r (n + mapBlockOf k)) j
-        other j e ne (yes p) = rw p (bitAt-putBit-bit (content l r (n + mapBlockOf k)) (mapByteOf k) (mapBitOf k) v (mapBitOf j) (omega (arith, long)) (omega arith) vl (λ z. ne (omega arith)))
-        other j e ne (no p) = bitAt-putBit-byte (content l r (n + mapBlockOf k)) (mapByteOf k) (mapBitOf k) v (mapByteOf j) (mapBitOf j) (omega arith) p
+        other j e ne (yes p) = rw p (bitAt-putBit-bit (content l r (n + mapBlockOf k)) (mapByteOf k) (mapBitOf k) v (mapBitOf j) (omega (arith, long, mapByteOf-lt k)) (mapBitOf-lt k) vl (λ z. ne (map-one j k e p (omega (arith, z)))))
+        other j e ne (no p) = bitAt-putBit-byte (content l r (n + mapBlockOf k)) (mapByteOf k) (mapBitOf k) v (mapByteOf j) (mapBitOf j) (omega (arith, mapBitOf-lt k, mapByteOf-lt k)) p
 
         bit : (j : ℕ) → j < 512 * mapBlocks n → ((y : ℕ) → Finishes (trackerAt (set ts x u') y) j → ⊥) → Dec (mapBlockOf j ≡ mapBlockOf k) → Dec (j ≡ k)
             → bitOn (content l r' (n + mapBlockOf j)) j ≡ pick (tagged row j) 1 0
-        bit j q none d (yes e) = rw (e, here) (bitAt-putBit-same (content l r (n + mapBlockOf k)) (mapByteOf k) (mapBitOf k) v (omega (arith, long)) (omega arith) vl ∙ is)
+        bit j q none d (yes e) = rw (e, here) (bitAt-putBit-same (content l r (n + mapBlockOf k)) (mapByteOf k) (mapBitOf k) v (omega (arith, long, mapByteOf-lt k)) (mapBitOf-lt k) vl ∙ is)
         bit j q none (yes d) (no e) = ap (λ (m : ℕ). bitOn (content l r' (n + m)) j) d ∙ ap (λ (c : List ℕ). bitOn c j) here ∙ other j d e (ℕ-discrete (mapByteOf j) (mapByteOf k))
             ∙ ap (λ (m : ℕ). bitOn (content l r (n + m)) j) (sym d) ∙ was j q e none
-        bit j q none (no d) (no e) = ap (λ (c : List ℕ). bitOn c j) (same (n + mapBlockOf j) (omega arith) (λ p. d (omega arith))) ∙ was j q e none
+        bit j q none (no d) (no e) = ap (λ (c : List ℕ). bitOn c j) (same (n + mapBlockOf j) (omega (arith, mapBlockOf-bit n j q)) (λ p. d (omega arith))) ∙ was j q e none

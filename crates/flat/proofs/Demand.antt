@@ -29,7 +29,7 @@ use Rattle.rules.proofs.Lined.{at}
 use Rattle.rules.proofs.Whole.{whole-facts, l-most}
 use Rattle.rules.proofs.Keeps.{isNo}
 use Rattle.rules.proofs.Calls.{bytes-right, memory-right, lengths-right, step-not-refused, drain-is, drain-busy}
-use Rattle.rules.proofs.Begun.{begun-whole}
+use Rattle.rules.proofs.Begun.{begun-whole, fresh-passed, open-passed, fresh-accepted, fresh-free, open-accepted, open-free, fresh-trackers, open-trackers}
 use Rattle.flat.specs.Flat.{Row, Flat, flatAnswers, flatEnded, effects}
 use Rattle.flat.specs.Moments.{toCome, issuesTo, momentsOf}
 use Rattle.flat.specs.Demand.{given, flatOf, Values32, atRest, Flatly}
@@ -144,79 +144,31 @@ module _ (n t l : ℕ) (bytes memory : List ℕ) (lim : limits n t l ≡ true) (
   }
 
 module _ (n t l : ℕ) (bytes memory : List ℕ) where
-  fresh-1 : limits n t l ≡ false → fresh n t l bytes memory ≡ refused 1 zeroState bytes memory
-  unfolding fresh
-  fresh-1 e = rw e
-
-  fresh-2 : limits n t l ≡ true → lengthsRight n l bytes memory ≡ false → fresh n t l bytes memory ≡ refused 2 zeroState bytes memory
-  unfolding fresh
-  fresh-2 e f = rw (e, f)
-
-  fresh-ok : limits n t l ≡ true → lengthsRight n l bytes memory ≡ true → fresh n t l bytes memory ≡ accepted (begun n t l) bytes (clearedMap n memory)
-  unfolding fresh
-  fresh-ok e f = rw (e, f)
-
-  opened-1 : limits n t l ≡ false → opened n t l bytes memory ≡ refused 1 zeroState bytes memory
-  unfolding opened
-  opened-1 e = rw e
-
-  opened-2 : limits n t l ≡ true → lengthsRight n l bytes memory ≡ false → opened n t l bytes memory ≡ refused 2 zeroState bytes memory
-  unfolding opened
-  opened-2 e f = rw (e, f)
-
-  opened-3 : limits n t l ≡ true → lengthsRight n l bytes memory ≡ true → isTrue n memory ≡ false → opened n t l bytes memory ≡ refused 3 zeroState bytes memory
-  unfolding opened
-  opened-3 e f g = rw (e, f, g)
-
-  opened-ok : limits n t l ≡ true → lengthsRight n l bytes memory ≡ true → isTrue n memory ≡ true → opened n t l bytes memory ≡ accepted (begun n t l) bytes memory
-  unfolding opened
-  opened-ok e f g = rw (e, f, g)
-
   -- an accepted fresh agrees with what its memory then reads
   pub fresh-agrees : fresh n t l bytes memory .said ≡ ok → Ok (kept (fresh n t l bytes memory)) (plainGroup (fresh n t l bytes memory .state .n) (fresh n t l bytes memory .memory))
-  fresh-agrees s = go (true-or-false (limits n t l)) (true-or-false (lengthsRight n l bytes memory))
-    where
-      go : (limits n t l ≡ true) ⊎ (limits n t l ≡ false) → (lengthsRight n l bytes memory ≡ true) ⊎ (lengthsRight n l bytes memory ≡ false)
-          → Ok (kept (fresh n t l bytes memory)) (plainGroup (fresh n t l bytes memory .state .n) (fresh n t l bytes memory .memory))
-      go (inr e) f = absurd (no-ok (ap (λ (o : Out). o .said) (sym (fresh-1 e)) ∙ s))
-      go (inl e) (inr f) = absurd (no-ok (ap (λ (o : Out). o .said) (sym (fresh-2 e f)) ∙ s))
-      go (inl e) (inl f) = subst (λ (o : Out). Ok (kept o) (plainGroup (o .state .n) (o .memory))) (sym (fresh-ok e f))
-          (begun-ok n t l bytes (clearedMap n memory) e
-          (lengths-right n l bytes (clearedMap n memory) (bytes-right n l bytes memory f) (length-clearedMap n memory ∙ memory-right n l bytes memory f)) (clearedMap-true n memory))
+  fresh-agrees s =
+      let c = fresh-passed n t l bytes memory s in
+      let f = fresh-free n t l bytes memory c in
+      rw (fresh-accepted n t l bytes memory c)
+      (begun-ok n t l bytes (clearedMap n memory) (f .0)
+      (lengths-right n l bytes (clearedMap n memory) (bytes-right n l bytes memory (f .1)) (length-clearedMap n memory ∙ memory-right n l bytes memory (f .1))) (clearedMap-true n memory))
 
   -- and so does an accepted open
   pub opened-agrees : opened n t l bytes memory .said ≡ ok → Ok (kept (opened n t l bytes memory)) (plainGroup (opened n t l bytes memory .state .n) (opened n t l bytes memory .memory))
-  opened-agrees s = go (true-or-false (limits n t l)) (true-or-false (lengthsRight n l bytes memory)) (true-or-false (isTrue n memory))
-    where
-      go : (limits n t l ≡ true) ⊎ (limits n t l ≡ false) → (lengthsRight n l bytes memory ≡ true) ⊎ (lengthsRight n l bytes memory ≡ false) → (isTrue n memory ≡ true) ⊎ (isTrue n memory ≡ false)
-          → Ok (kept (opened n t l bytes memory)) (plainGroup (opened n t l bytes memory .state .n) (opened n t l bytes memory .memory))
-      go (inr e) f g = absurd (no-ok (ap (λ (o : Out). o .said) (sym (opened-1 e)) ∙ s))
-      go (inl e) (inr f) g = absurd (no-ok (ap (λ (o : Out). o .said) (sym (opened-2 e f)) ∙ s))
-      go (inl e) (inl f) (inr g) = absurd (no-ok (ap (λ (o : Out). o .said) (sym (opened-3 e f g)) ∙ s))
-      go (inl e) (inl f) (inl g) = subst (λ (o : Out). Ok (kept o) (plainGroup (o .state .n) (o .memory))) (sym (opened-ok e f g)) (begun-ok n t l bytes memory e f g)
+  opened-agrees s =
+      let c = open-passed n t l bytes memory s in
+      let f = open-free n t l bytes memory c in
+      rw (open-accepted n t l bytes memory c) (begun-ok n t l bytes memory (f .0) (f .1) (f .2))
 
   -- every tracker is idle then
   begun-idle : (o : Out) → o .state .trackers ≡ replicate 8 idle → (x : ℕ) → trackerAt (o .state .trackers) x .phase ≡ Idle
   begun-idle o e x = ap (λ (ts : List Tracker). trackerAt ts x .phase) e ∙ ap (λ (u : Tracker). u .phase) (getD-replicate 8 x idle)
 
   fresh-idle : (x : ℕ) → trackerAt (fresh n t l bytes memory .state .trackers) x .phase ≡ Idle
-  fresh-idle = begun-idle (fresh n t l bytes memory) (go (true-or-false (limits n t l)) (true-or-false (lengthsRight n l bytes memory)))
-    where
-      go : (limits n t l ≡ true) ⊎ (limits n t l ≡ false) → (lengthsRight n l bytes memory ≡ true) ⊎ (lengthsRight n l bytes memory ≡ false)
-          → fresh n t l bytes memory .state .trackers ≡ replicate 8 idle
-      go (inr e) f = ap (λ (o : Out). o .state .trackers) (fresh-1 e)
-      go (inl e) (inr f) = ap (λ (o : Out). o .state .trackers) (fresh-2 e f)
-      go (inl e) (inl f) = ap (λ (o : Out). o .state .trackers) (fresh-ok e f)
+  fresh-idle = begun-idle (fresh n t l bytes memory) (fresh-trackers n t l bytes memory)
 
   opened-idle : (x : ℕ) → trackerAt (opened n t l bytes memory .state .trackers) x .phase ≡ Idle
-  opened-idle = begun-idle (opened n t l bytes memory) (go (true-or-false (limits n t l)) (true-or-false (lengthsRight n l bytes memory)) (true-or-false (isTrue n memory)))
-    where
-      go : (limits n t l ≡ true) ⊎ (limits n t l ≡ false) → (lengthsRight n l bytes memory ≡ true) ⊎ (lengthsRight n l bytes memory ≡ false) → (isTrue n memory ≡ true) ⊎ (isTrue n memory ≡ false)
-          → opened n t l bytes memory .state .trackers ≡ replicate 8 idle
-      go (inr e) f g = ap (λ (o : Out). o .state .trackers) (opened-1 e)
-      go (inl e) (inr f) g = ap (λ (o : Out). o .state .trackers) (opened-2 e f)
-      go (inl e) (inl f) (inr g) = ap (λ (o : Out). o .state .trackers) (opened-3 e f g)
-      go (inl e) (inl f) (inl g) = ap (λ (o : Out). o .state .trackers) (opened-ok e f g)
+  opened-idle = begun-idle (opened n t l bytes memory) (open-trackers n t l bytes memory)
 
   -- DEMAND 2
   pub fresh-is-flat : fresh n t l bytes memory .said ≡ ok → (cs : List Call) → Values32 cs → Flatly (kept (fresh n t l bytes memory)) cs

@@ -10,7 +10,8 @@ use lib.ListN.{set}
 use borrow.Author.Tests.{lt-ltb, le-ltb}
 use Rattle.laws.specs.Choice.{pick}
 use Rattle.laws.proofs.Choice.{true-or-false}
-use Rattle.laws.proofs.Splice.{lt-or-ge}
+use Rattle.laws.specs.Refusal.{refusal, unless}
+use Rattle.laws.proofs.Refusal.{refused-or-not, unless-0, unless-no}
 use Rattle.geometry.specs.TagMemory.{leafOf}
 use Rattle.tracker.specs.declared.Tracker.{Tracker}
 use Rattle.tracker.specs.Tracker.{isIdle, issued, firstPhase}
@@ -20,10 +21,10 @@ use Rattle.rules.specs.State.{State, Rows, trackerAt, lengthsRight}
 use Rattle.rules.specs.Whole.{whole}
 use Rattle.rules.specs.Place.{drained}
 use Rattle.rules.specs.Step.{byPhase}
-use Rattle.rules.specs.Calls.{Out, refused, accepted, withTracker, withLines, issueNo, issue, stepped, stepNo, step, allIdle, drainNo, drain}
+use Rattle.rules.specs.Calls.{Out, refused, accepted, withTracker, withLines, issueTests, issueNo, issue, stepped, stepTests, stepNo, step, allIdle, drainNo, drain}
 use Rattle.rules.specs.Run.{Call, issues, steps, drains, lends, Kept, kept, elsewhere, does}
 use Rattle.rules.proofs.Whole.{Whole, whole-facts}
-use Rattle.rules.proofs.Calls.{rows-fit, turn-byPhase, step-is, step-sound, step-idle, step-past, issue-past, issue-group, issue-busy, issue-accepted, issue-kept, drain-is, drain-sound, drain-busy, drains as drains-lined}
+use Rattle.rules.proofs.Calls.{rows-fit, turn-byPhase, step-is, step-sound, step-refused, step-free, issue-refused, issue-accepted, issue-free, issue-kept, drain-is, drain-sound, drain-busy, drains as drains-lined}
 use Rattle.flat.specs.Flat.{Row, Flat, Reply, Course, courseOf, says, rowBy, trackerBy, effectBy, withRow, refuse, flatIssue, flatStep, flatDrain, flatDoes}
 use Rattle.flat.specs.Demand.{found, Value32}
 use Rattle.flat.proofs.Agrees.{Fits, Agrees, finish-busy, agrees-same, agrees-rows}
@@ -78,52 +79,42 @@ module _ {k : Kept} {row : Row} (a : Ok k row) where
     unfolding does
     does-issue = refl
 
-    flat-5 : k .state .t ≤ x → flatIssue (flatWith k row) x write bottom g v ≡ refuse 5 (flatWith k row)
+    flat-refused : 0 < refusal (issueTests (k .state .n) (k .state .t) x g (trackerAt (k .state .trackers) x))
+        → flatIssue (flatWith k row) x write bottom g v ≡ refuse (refusal (issueTests (k .state .n) (k .state .t) x g (trackerAt (k .state .trackers) x))) (flatWith k row)
     unfolding flatIssue
-    flat-5 q = rw (le-ltb _ _ q)
+    flat-refused h = unless-no _ _ h
 
-    module _ (xl : x < k .state .t) where
-      flat-6 : 16 * k .state .n ≤ g → flatIssue (flatWith k row) x write bottom g v ≡ refuse 6 (flatWith k row)
+    module _ (free : refusal (issueTests (k .state .n) (k .state .t) x g (trackerAt (k .state .trackers) x)) ≡ 0) where
+      flat-issued : flatIssue (flatWith k row) x write bottom g v ≡ (record { said = ok; flat = withRow (flatWith k row) row x (issued write bottom g v); effect = [] })
       unfolding flatIssue
-      flat-6 q = rw (lt-ltb _ _ xl, le-ltb _ _ q)
+      flat-issued = unless-0 _ _ free
 
-      module _ (gl : g < 16 * k .state .n) where
-        flat-7 : isIdle (trackerAt (k .state .trackers) x) ≡ false → flatIssue (flatWith k row) x write bottom g v ≡ refuse 7 (flatWith k row)
-        unfolding flatIssue
-        flat-7 e = rw (lt-ltb _ _ xl, lt-ltb _ _ gl, e)
+      first-fits : (b : Bool) → Fits row (issued write b g v) (firstPhase b)
+      first-fits true = tt
+      first-fits false = tt
 
-        flat-issued : isIdle (trackerAt (k .state .trackers) x) ≡ true
-            → flatIssue (flatWith k row) x write bottom g v ≡ (record { said = ok; flat = withRow (flatWith k row) row x (issued write bottom g v); effect = [] })
-        unfolding flatIssue
-        flat-issued e = rw (lt-ltb _ _ xl, lt-ltb _ _ gl, e)
+      value-small : v < 4294967296 → (b : Bool) → pick b v 0 < 4294967296
+      value-small q true = q
+      value-small q false = omega arith
 
-        first-fits : (b : Bool) → Fits row (issued write b g v) (firstPhase b)
-        first-fits true = tt
-        first-fits false = tt
-
-        value-small : v < 4294967296 → (b : Bool) → pick b v 0 < 4294967296
-        value-small q true = q
-        value-small q false = omega arith
-
-        issued-agrees : isIdle (trackerAt (k .state .trackers) x) ≡ true → v < 4294967296
-            → Agrees (k .state .n) (k .state .l) (rowsOf k) (set (k .state .trackers) x (issued write bottom g v)) row
-        issued-agrees e q = agrees-same (a .agrees) x (omega (arith, w .tracked .long)) (issued write bottom g v) (value-small q write) (a .agrees .good) (λ b bl. refl) (a .agrees .lined)
-            (λ j f. finish-busy (trackerAt (k .state .trackers) x .phase) e (f .is-there)) (first-fits bottom)
+      issued-agrees : v < 4294967296 → Agrees (k .state .n) (k .state .l) (rowsOf k) (set (k .state .trackers) x (issued write bottom g v)) row
+      issued-agrees q =
+          let h = issue-free (k .state) (k .bytes) (k .memory) (a .is-whole) (a .right) x write bottom g v free in
+          agrees-same (a .agrees) x (omega (arith, w .tracked .long, h .0)) (issued write bottom g v) (value-small q write) (a .agrees .good) (λ b bl. refl) (a .agrees .lined)
+          (λ j f. finish-busy (trackerAt (k .state .trackers) x .phase) (h .2) (f .is-there)) (first-fits bottom)
 
     follows-issue : v < 4294967296 → Follows k (issues x write bottom g v) row
-    follows-issue q = go (lt-or-ge x (k .state .t)) (lt-or-ge g (16 * k .state .n)) (true-or-false (isIdle (trackerAt (k .state .trackers) x)))
+    follows-issue q = go (refused-or-not (refusal (issueTests (k .state .n) (k .state .t) x g (trackerAt (k .state .trackers) x))))
       where
-        go : (x < k .state .t) ⊎ (k .state .t ≤ x) → (g < 16 * k .state .n) ⊎ (16 * k .state .n ≤ g)
-            → (isIdle (trackerAt (k .state .trackers) x) ≡ true) ⊎ (isIdle (trackerAt (k .state .trackers) x) ≡ false) → Follows k (issues x write bottom g v) row
-        go (inr xl) gl e = follows-no 5 (does-issue ∙ issue-past (k .state) (k .bytes) (k .memory) (a .is-whole) (a .right) x write bottom g v xl) (flat-issue ∙ flat-5 xl)
-        go (inl xl) (inr gl) e = follows-no 6 (does-issue ∙ issue-group (k .state) (k .bytes) (k .memory) (a .is-whole) (a .right) x write bottom g v xl gl) (flat-issue ∙ flat-6 xl gl)
-        go (inl xl) (inl gl) (inr e) = follows-no 7 (does-issue ∙ issue-busy (k .state) (k .bytes) (k .memory) (a .is-whole) (a .right) x write bottom g v xl gl e) (flat-issue ∙ flat-7 xl gl e)
-        go (inl xl) (inl gl) (inl e) =
-            let is = issue-accepted (k .state) (k .bytes) (k .memory) (a .is-whole) (a .right) x write bottom g v xl gl e in
+        go : (refusal (issueTests (k .state .n) (k .state .t) x g (trackerAt (k .state .trackers) x)) ≡ 0) ⊎ (0 < refusal (issueTests (k .state .n) (k .state .t) x g (trackerAt (k .state .trackers) x)))
+            → Follows k (issues x write bottom g v) row
+        go (inr h) = follows-no _ (does-issue ∙ issue-refused (k .state) (k .bytes) (k .memory) (a .is-whole) (a .right) x write bottom g v h) (flat-issue ∙ flat-refused h)
+        go (inl e) =
+            let is = issue-accepted (k .state) (k .bytes) (k .memory) (a .is-whole) (a .right) x write bottom g v e in
             let s = issue-kept (k .state) (k .bytes) (k .memory) (a .is-whole) (a .right) x write bottom g v in
             follows-by (accepted (withTracker (k .state) x (issued write bottom g v)) (k .bytes) (k .memory))
-            (record { said = ok; flat = withRow (flatWith k row) row x (issued write bottom g v); effect = [] }) row (does-issue ∙ is) (flat-issue ∙ flat-issued xl gl e) refl refl
-            (record { is-whole = rw is at (s .is-whole); right = a .right; agrees = issued-agrees xl gl e q }) refl
+            (record { said = ok; flat = withRow (flatWith k row) row x (issued write bottom g v); effect = [] }) row (does-issue ∙ is) (flat-issue ∙ flat-issued e) refl refl
+            (record { is-whole = rw is at (s .is-whole); right = a .right; agrees = issued-agrees e q }) refl
 
   -- step
   module _ (x : ℕ) where
@@ -136,21 +127,24 @@ module _ {k : Kept} {row : Row} (a : Ok k row) where
     does-step = refl
 
     module _ (f : Bool) where
-      flat-past : k .state .t ≤ x → flatStep (flatWith k row) f x ≡ refuse 5 (flatWith k row)
+      flat-no : 0 < refusal (stepTests (k .state .t) x (trackerAt (k .state .trackers) x))
+          → flatStep (flatWith k row) f x ≡ refuse (refusal (stepTests (k .state .t) x (trackerAt (k .state .trackers) x))) (flatWith k row)
       unfolding flatStep
-      flat-past q = rw (le-ltb _ _ q)
+      flat-no h = unless-no _ _ h
 
-      flat-idle : x < k .state .t → isIdle (trackerAt (k .state .trackers) x) ≡ true → flatStep (flatWith k row) f x ≡ refuse 8 (flatWith k row)
-      unfolding flatStep
-      flat-idle q e = rw (lt-ltb _ _ q, e)
-
-      flat-turn : x < k .state .t → isIdle (trackerAt (k .state .trackers) x) ≡ false
+      flat-turn : refusal (stepTests (k .state .t) x (trackerAt (k .state .trackers) x)) ≡ 0
           → flatStep (flatWith k row) f x ≡ (let t = trackerAt (k .state .trackers) x in let c = courseOf (flatWith k row) f x in
           record { said = says row t c; flat = withRow (flatWith k row) (rowBy row t c) x (trackerBy t c); effect = effectBy x t c })
       unfolding flatStep
-      flat-turn q e = rw (lt-ltb _ _ q, e)
+      flat-turn e = unless-0 _ _ e
 
-    module _ (xl : x < k .state .t) (busy : isIdle (trackerAt (k .state .trackers) x) ≡ false) where
+    module _ (free : refusal (stepTests (k .state .t) x (trackerAt (k .state .trackers) x)) ≡ 0) where
+      xl : x < k .state .t
+      xl = step-free (k .state) (k .bytes) (k .memory) (a .is-whole) (a .right) x free .0
+
+      busy : isIdle (trackerAt (k .state .trackers) x) ≡ false
+      busy = step-free (k .state) (k .bytes) (k .memory) (a .is-whole) (a .right) x free .1
+
       abbrev u : Tracker
       u = trackerAt (k .state .trackers) x
 
@@ -170,17 +164,14 @@ module _ {k : Kept} {row : Row} (a : Ok k row) where
           let s = step-sound (k .state) (k .bytes) (k .memory) (a .is-whole) (a .right) x xl busy in
           follows-by (stepped (k .state) x (byPhase (k .state .n) (k .state .l) (k .state .hand) x u (rowsOf k) (u .phase)))
           (record { said = says row u c; flat = withRow (flatWith k row) (rowBy row u c) x (trackerBy u c); effect = effectBy x u c })
-          (rowBy row u c) (does-step ∙ is) (flat-step ∙ flat-turn in-line xl busy) (plays .said-is)
+          (rowBy row u c) (does-step ∙ is) (flat-step ∙ flat-turn in-line free) (plays .said-is)
           (ap (λ (z : Tracker). withRow (flatWith k row) (rowBy row u c) x z) (sym (plays .tracker-is)))
           (record { is-whole = rw is at (s .is-whole); right = rw is at (s .right); agrees = plays .agrees }) refl
 
     follows-step : Follows k (steps x) row
-    follows-step = go (lt-or-ge x (k .state .t)) (true-or-false (isIdle (trackerAt (k .state .trackers) x)))
-      where
-        go : (x < k .state .t) ⊎ (k .state .t ≤ x) → (isIdle (trackerAt (k .state .trackers) x) ≡ true) ⊎ (isIdle (trackerAt (k .state .trackers) x) ≡ false) → Follows k (steps x) row
-        go (inr q) e = follows-no 5 (does-step ∙ step-past (k .state) (k .bytes) (k .memory) (a .is-whole) (a .right) x q) (flat-step ∙ flat-past _ q)
-        go (inl q) (inl e) = follows-no 8 (does-step ∙ step-idle (k .state) (k .bytes) (k .memory) (a .is-whole) (a .right) x q e) (flat-step ∙ flat-idle _ q e)
-        go (inl q) (inr e) = follows-turn q e
+    follows-step = ⊎-elim (λ e. follows-turn e)
+        (λ h. follows-no _ (does-step ∙ step-refused (k .state) (k .bytes) (k .memory) (a .is-whole) (a .right) x h) (flat-step ∙ flat-no _ h))
+        (refused-or-not (refusal (stepTests (k .state .t) x (trackerAt (k .state .trackers) x))))
 
   -- drain
   flat-drain : flatDoes (flatWith k row) (found k drains) drains ≡ flatDrain (flatWith k row)
@@ -192,11 +183,11 @@ module _ {k : Kept} {row : Row} (a : Ok k row) where
   does-drain = refl
 
   flat-busy : allIdle (k .state) ≡ false → flatDrain (flatWith k row) ≡ refuse 7 (flatWith k row)
-  unfolding flatDrain allIdle
+  unfolding flatDrain allIdle refusal unless
   flat-busy e = rw e
 
   flat-drained : allIdle (k .state) ≡ true → flatDrain (flatWith k row) ≡ (record { said = ok; flat = flatWith k row; effect = [] })
-  unfolding flatDrain allIdle
+  unfolding flatDrain allIdle refusal unless
   flat-drained e = rw e
 
   follows-drain : Follows k drains row
@@ -240,15 +231,15 @@ module _ (k : Kept) (b m : List ℕ) (c : Call) where
 
 module _ (s : State) (b m : List ℕ) (w : whole s ≡ true) (e : lengthsRight (s .n) (s .l) b m ≡ false) where
   issue-2 : (x : ℕ) (write bottom : Bool) (g v : ℕ) → does (record { state = s; bytes = b; memory = m }) (issues x write bottom g v) ≡ refused 2 s b m
-  unfolding does issue issueNo
+  unfolding does issue issueNo refusal unless
   issue-2 x write bottom g v = rw (w, e)
 
   step-2 : (x : ℕ) → does (record { state = s; bytes = b; memory = m }) (steps x) ≡ refused 2 s b m
-  unfolding does step stepNo
+  unfolding does step stepNo refusal unless
   step-2 x = rw (w, e)
 
   drain-2 : does (record { state = s; bytes = b; memory = m }) drains ≡ refused 2 s b m
-  unfolding does drain drainNo
+  unfolding does drain drainNo refusal unless
   drain-2 = rw (w, e)
 
 wrong-lengths : (s : State) (c : Call) (b m : List ℕ) → whole s ≡ true → lengthsRight (s .n) (s .l) b m ≡ false → does (record { state = s; bytes = b; memory = m }) c ≡ refused 2 s b m

@@ -9,6 +9,10 @@ use lib.Dec.{ltb, eqb}
 use lib.ListN.{length, getD, set, length-set}
 use lib.Seq.{getD-set-same, getD-set-other}
 use borrow.Author.Tests.{ltb-true, eq-eqb, ne-eqb}
+use borrow.Author.Tests.{not-true, ne-eqb}
+use Rattle.laws.specs.Refusal.{refusal, unless}
+use Rattle.laws.proofs.Refusal.{refusal-hold, refusal-other, unless-by}
+use Rattle.rules.specs.Calls.{issueTests, stepTests, drainTests}
 use Rattle.laws.specs.Choice.{pick, both, no as negated}
 use Rattle.laws.proofs.Choice.{not-both-ways}
 use Rattle.geometry.specs.TagMemory.{leafOf}
@@ -145,12 +149,7 @@ first-to-come true = refl
 first-to-come false = refl
 
 idle-none : (p : Phase) → isIdleAt p ≡ true → toCome p ≡ 0
-idle-none Idle e = refl
-idle-none Probe e = absurd (not-both-ways e refl)
-idle-none Map e = absurd (not-both-ways e refl)
-idle-none Leaf e = absurd (not-both-ways e refl)
-idle-none Set e = refl
-idle-none Clear e = refl
+idle-none p e = rw e
 
 module _ (f : Flat) where
   issue-lawful : (y : ℕ) (write bottom : Bool) (g v : ℕ) → ltb y (f .t) ≡ true → isIdle (trackerAt (f .trackers) y) ≡ true
@@ -224,19 +223,19 @@ module _ (f : Flat) where
 
   issues-lawful : (found : Bool) (x : ℕ) (write bottom : Bool) (g v : ℕ) → Lawful f (issues x write bottom g v) (flatDoes f found (issues x write bottom g v))
   unfolding flatDoes flatIssue
-  issues-lawful found x write bottom g v = pick-by (Lawful f (issues x write bottom g v)) (ltb x (f .t))
-      (λ xl. pick-by (Lawful f (issues x write bottom g v)) (ltb g (16 * f .n))
-      (λ _. pick-by (Lawful f (issues x write bottom g v)) (isIdle (trackerAt (f .trackers) x)) (λ e. issue-lawful x write bottom g v xl e) (λ _. refuse-lawful f _ 7 refl))
-      (λ _. refuse-lawful f _ 6 refl)) (λ _. refuse-lawful f _ 5 refl)
+  issues-lawful found x write bottom g v = unless-by _ _ (Lawful f (issues x write bottom g v))
+      (λ e. let h = refusal-hold (issueTests (f .n) (f .t) x g (trackerAt (f .trackers) x)) refl e in issue-lawful x write bottom g v (h .0) (h .1 .1 .0))
+      (λ h. refuse-lawful f _ _ (ne-eqb _ 4 (refusal-other (issueTests (f .n) (f .t) x g (trackerAt (f .trackers) x)) 4 refl (omega arith))))
 
   steps-lawful : (found : Bool) (x : ℕ) → Lawful f (steps x) (flatDoes f found (steps x))
   unfolding flatDoes flatStep
-  steps-lawful found x = pick-by (Lawful f (steps x)) (ltb x (f .t))
-      (λ xl. pick-by (Lawful f (steps x)) (isIdle (trackerAt (f .trackers) x)) (λ _. refuse-lawful f _ 8 refl) (λ e. step-lawful found x xl e)) (λ _. refuse-lawful f _ 5 refl)
+  steps-lawful found x = unless-by _ _ (Lawful f (steps x))
+      (λ e. let h = refusal-hold (stepTests (f .t) x (trackerAt (f .trackers) x)) refl e in step-lawful found x (h .0) (not-true _ (h .1 .0)))
+      (λ h. refuse-lawful f _ _ (ne-eqb _ 4 (refusal-other (stepTests (f .t) x (trackerAt (f .trackers) x)) 4 refl (omega arith))))
 
   drains-lawful : (found : Bool) → Lawful f drains (flatDoes f found drains)
   unfolding flatDoes flatDrain
-  drains-lawful found = pick-by (Lawful f drains) (allRest f) (λ _. drain-lawful) (λ _. refuse-lawful f _ 7 refl)
+  drains-lawful found = unless-by _ _ (Lawful f drains) (λ _. drain-lawful) (λ _. refuse-lawful f _ _ (ne-eqb _ 4 (refusal-other (drainTests (allRest f)) 4 refl (omega arith))))
 
   lent-lawful : (found : Bool) (b m : List ℕ) (c : Call) → Lawful f c (flatDoes f found c) → Lawful f (lends b m c) (flatDoes f found (lends b m c))
   unfolding flatDoes

@@ -8,6 +8,8 @@ use Prim.Native.Nat.{ℕ, _+_, _*_, _<_, _≤_}
 use native.Mathlib.Omega.{arith}
 use native.Mathlib.Decide.{ℕ-discrete}
 use lib.ListN.{length}
+use Rattle.geometry.proofs.Places.{leafOf-lt, byteOf-lt, group-lt, mapBlockOf-bit, mapByteOf-lt, bit-outside, leaf-has-bit}
+use Rattle.geometry.specs.TagMemory.{groups}
 use Rattle.laws.specs.Choice.{pick}
 use Rattle.laws.proofs.Choice.{not-both-ways, true-or-false}
 use Rattle.laws.proofs.Splice.{lt-or-ge}
@@ -33,14 +35,14 @@ use Rattle.flat.proofs.Agrees.{bitOn, Finishes, Agrees, finish-busy}
 module _ (n : ℕ) (m : List ℕ) (long : length m ≡ 64 * blocks n) where
   pub leafBit-block : (k : ℕ) → k < 512 * mapBlocks n → leafBit n m k ≡ bitOn (blockAt m (n + mapBlockOf k)) k
   unfolding leafBit
-  leafBit-block k q = bit-block m (n + mapBlockOf k) (omega arith) (mapByteOf k) (mapBitOf k) (omega arith)
+  leafBit-block k q = bit-block m (n + mapBlockOf k) (omega (arith, mapBlockOf-bit n k q)) (mapByteOf k) (mapBitOf k) (mapByteOf-lt k)
 
   pub leafBit-none : (k : ℕ) → 512 * mapBlocks n ≤ k → leafBit n m k ≡ 0
   unfolding leafBit
-  leafBit-none k q = bitAt-not m (mapPlace n k) (mapBitOf k) (omega arith)
+  leafBit-none k q = bitAt-not m (mapPlace n k) (mapBitOf k) (omega (arith, bit-outside n k q))
 
-  pub group-leaf : (g : ℕ) → g < 16 * n → groupAt m (groupPlace g) ≡ groupAt (blockAt m (leafOf g)) (byteOf g)
-  group-leaf g q = group-block m (leafOf g) (omega arith) (byteOf g) (omega arith)
+  pub group-leaf : (g : ℕ) → g < groups n → groupAt m (groupPlace g) ≡ groupAt (blockAt m (leafOf g)) (byteOf g)
+  group-leaf g q = group-block m (leafOf g) (omega (arith, leafOf-lt n g q)) (byteOf g) (byteOf-lt g)
 
 pub leafBit-or : (n : ℕ) (m : List ℕ) (k : ℕ) → (leafBit n m k ≡ 1) ⊎ (leafBit n m k ≡ 0)
 unfolding leafBit
@@ -80,7 +82,7 @@ module _ {n l : ℕ} {r : Rows} {ts : List Tracker} {row : Row} (A : Agrees n l 
   tags-low k t = ⊎-elim (λ q. q) (λ q. absurd (not-both-ways t (A .past k q))) (lt-or-ge k n)
 
   leaf-groups : (g : ℕ) → tagged row (leafOf g) ≡ true → row g ≡ groupAt (blockAt (r .memory) (leafOf g)) (byteOf g)
-  leaf-groups g t = A .live g (let z = tags-low (leafOf g) t in omega arith) t ∙ ap (λ (c : List ℕ). groupAt c (byteOf g)) (in-memory (leafOf g))
+  leaf-groups g t = A .live g (group-lt n g (tags-low (leafOf g) t)) t ∙ ap (λ (c : List ℕ). groupAt c (byteOf g)) (in-memory (leafOf g))
 
   -- plain reading is the row
   pub reads-row : (g : ℕ) → plainGroup n (r .memory) g ≡ row g
@@ -89,7 +91,7 @@ module _ {n l : ℕ} {r : Rows} {ts : List Tracker} {row : Row} (A : Agrees n l 
       go : (tagged row (leafOf g) ≡ true) ⊎ (tagged row (leafOf g) ≡ false) → plainGroup n (r .memory) g ≡ row g
       go (inl t) =
           let kl : leafOf g < n = tags-low (leafOf g) t in
-          plainGroup-1 n (r .memory) g (bit-is (leafOf g) (omega arith) ∙ rw t) ∙ group-leaf n (r .memory) long g (omega arith) ∙ sym (leaf-groups g t)
+          plainGroup-1 n (r .memory) g (bit-is (leafOf g) (leaf-has-bit n _ kl) ∙ rw t) ∙ group-leaf n (r .memory) long g (group-lt n g kl) ∙ sym (leaf-groups g t)
       go (inr t) = plainGroup-0 n (r .memory) g (λ e. not-both-ways (bit-tags (leafOf g) e) t) ∙ sym (untagged row (leafOf g) t g refl)
 
   -- and the memory is true
@@ -125,13 +127,13 @@ module _ (n l : ℕ) (r : Rows) (ts : List Tracker) (lb : length (r .bytes) ≡ 
   groups-1 : (k : ℕ) → leafBit n (r .memory) k ≡ 1 → (g : ℕ) → leafOf g ≡ k → row0 g ≡ groupAt (blockAt (r .memory) k) (byteOf g)
   groups-1 k e g q =
       let kl = one-low k e in
-      plainGroup-1 n (r .memory) g (rw q e) ∙ group-leaf n (r .memory) lm g (omega arith) ∙ ap (λ (i : ℕ). groupAt (blockAt (r .memory) i) (byteOf g)) q
+      plainGroup-1 n (r .memory) g (rw q e) ∙ group-leaf n (r .memory) lm g (group-lt n g (omega (arith, kl, q))) ∙ ap (λ (i : ℕ). groupAt (blockAt (r .memory) i) (byteOf g)) q
 
   under-1 : (k : ℕ) → leafBit n (r .memory) k ≡ 1 → tagged row0 k ≡ true
   under-1 k e =
       let kl = one-low k e in
       tagged-full row0 k (blockAt (r .memory) k) (block-length (r .memory) k (omega (arith, lm))) (groups-1 k e)
-      (full (allZero (blockAt (r .memory) k)) refl (sym (trueAt-1 n (r .memory) k e kl) ∙ isTrue-at n (r .memory) tr k (omega arith)))
+      (full (allZero (blockAt (r .memory) k)) refl (sym (trueAt-1 n (r .memory) k e kl) ∙ isTrue-at n (r .memory) tr k (leaf-has-bit n k kl)))
     where
       full : (z : Bool) → allZero (blockAt (r .memory) k) ≡ z → not z ≡ true → z ≡ false
       full true e h = absurd (not-both-ways h refl)

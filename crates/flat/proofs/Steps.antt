@@ -9,6 +9,10 @@ use native.Mathlib.Decide.{ℕ-discrete}
 use lib.Dec.{eqb, ltb}
 use lib.ListN.{length, set}
 use borrow.Author.Tests.{lt-ltb, le-ltb, eqb-true}
+use Rattle.tracker.specs.Tracker.{atFinish}
+use Rattle.tracker.proofs.Phases.{idle-loose, finish-holds}
+use Rattle.geometry.proofs.Places.{leafOf-lt, byteOf-lt, group-lt, mapBlockOf-lt, leaf-has-bit, mapByteOf-lt, mapBitOf-lt}
+use Rattle.geometry.specs.TagMemory.{groups}
 use Rattle.laws.specs.Choice.{pick, both, no as negated}
 use Rattle.laws.proofs.Choice.{not-both-ways, true-or-false, both-left, both-right, both-true, both-false-left, both-false-right}
 use Rattle.laws.proofs.Splice.{lt-or-ge}
@@ -37,7 +41,7 @@ use Rattle.flat.proofs.Views.{Has64, group-block, bit-block, group-here
 use Rattle.flat.proofs.Tags.{untagged, tagged-at, tagged-empty, tagged-full}
 use Rattle.flat.proofs.Contents.{content, Good, content-in, has-same}
 use Rattle.flat.proofs.Rows.{Same, Placing, Writing, line-length, placed-good, placed-here, placed-other, placed-had, written-good, written-here, written-other, written-had, written-still, freed-good, freed-other, freed-had, mark-same, mark-had, BringsIn, brings-in}
-use Rattle.flat.proofs.Agrees.{bitOn, atFinish, Finishes, Fits, Agrees, finish-holds, agrees-same, agrees-leaf, agrees-bit}
+use Rattle.flat.proofs.Agrees.{bitOn, Finishes, Fits, Agrees, agrees-same, agrees-leaf, agrees-bit}
 use Rattle.flat.proofs.Course.{put-here, put-far, reads-nothing, answer-read, after-read, after-write, same-nothing, answer-same, after-same, other-something, answer-done, probe-ends, probe-missed, probe-goes, map-waits, map-goes-tagged, map-goes, map-ends, leaf-ends, leaf-sets, leaf-clears, leaf-done}
 
 pub same-then : {B l : ℕ} {r r1 r2 : Rows} → Same B l r r1 → Same B l r1 r2 → Same B l r r2
@@ -90,17 +94,17 @@ module _ (n t l hand x : ℕ) (ts : List Tracker) (r : Rows) (lim : limits n t l
   xlong : x < length ts
   xlong = omega (arith, k .long)
 
-  group-ok : u .group < 16 * n
+  group-ok : u .group < groups n
   group-ok = rw (← is) (k .group-lt x (rw is busy))
 
   leaf-ok : leafOf (u .group) < n
-  leaf-ok = omega (arith, group-ok)
+  leaf-ok = leafOf-lt n _ group-ok
 
   map-ok : mapBlock n (u .group) < blocks n
-  map-ok = omega (arith, group-ok)
+  map-ok = omega (arith, mapBlockOf-lt n _ leaf-ok)
 
   bit-ok : leafOf (u .group) < 512 * mapBlocks n
-  bit-ok = omega (arith, group-ok)
+  bit-ok = leaf-has-bit n _ leaf-ok
 
   few : t < l
   few = omega (arith, l-least n t l lim)
@@ -119,15 +123,7 @@ module _ (n t l hand x : ℕ) (ts : List Tracker) (r : Rows) (lim : limits n t l
 
   -- a tracker at Leaf or Finish is below t, and its map block's line names it
   named-line : (y : ℕ) → holdsAt (trackerAt ts y .phase) ≡ true → Held (r .lines) y (mapBlock n (trackerAt ts y .group))
-  named-line y h = v .in-line y (mapBlock n (trackerAt ts y .group)) (⊎-elim (λ q. q) (λ q. absurd (rests (trackerAt ts y .phase) (k .above y q) h)) (lt-or-ge y t)) (heldOf-yes n ts y h)
-    where
-      rests : (p : Phase) → isIdleAt p ≡ true → holdsAt p ≡ true → ⊥
-      rests Idle a b = not-both-ways b refl
-      rests Probe a b = not-both-ways b refl
-      rests Map a b = not-both-ways b refl
-      rests Leaf a b = not-both-ways a refl
-      rests Set a b = not-both-ways a refl
-      rests Clear a b = not-both-ways a refl
+  named-line y h = v .in-line y (mapBlock n (trackerAt ts y .group)) (⊎-elim (λ q. q) (λ q. absurd (not-both-ways h (idle-loose (trackerAt ts y .phase) (k .above y q)))) (lt-or-ge y t)) (heldOf-yes n ts y h)
 
   finish-block : (y j : ℕ) → Finishes (trackerAt ts y) j → mapBlock n (trackerAt ts y .group) ≡ n + mapBlockOf j
   finish-block y j f = ap (λ (z : ℕ). n + mapBlockOf z) (f .is-leaf)
@@ -141,12 +137,12 @@ module _ (n t l hand x : ℕ) (ts : List Tracker) (r : Rows) (lim : limits n t l
     shown i b h = sym (content-in (S .good) i b h) ∙ S .same b (S .good .exists i b h)
 
     group-read : (i : ℕ) → Has (rr .lines) i (leafOf (u .group)) → tagged row (leafOf (u .group)) ≡ true → groupIn (rr .bytes) i (u .group) ≡ row (u .group)
-    group-read i h e = group-block (rr .bytes) i (line-64 i (S .good .low i _ h)) (byteOf (u .group)) (omega arith)
+    group-read i h e = group-block (rr .bytes) i (line-64 i (S .good .low i _ h)) (byteOf (u .group)) (byteOf-lt (u .group))
         ∙ ap (λ (c : List ℕ). groupAt c (byteOf (u .group))) (shown i (leafOf (u .group)) h) ∙ sym (A .live (u .group) group-ok e)
 
     bit-read : (i : ℕ) → Has (rr .lines) i (mapBlock n (u .group)) → ((y : ℕ) → Finishes (trackerAt ts y) (leafOf (u .group)) → ⊥)
         → bitIn (rr .bytes) i (u .group) ≡ pick (tagged row (leafOf (u .group))) 1 0
-    bit-read i h none = bit-block (rr .bytes) i (line-64 i (S .good .low i _ h)) (mapByteOf (leafOf (u .group))) (mapBitOf (leafOf (u .group))) (omega arith)
+    bit-read i h none = bit-block (rr .bytes) i (line-64 i (S .good .low i _ h)) (mapByteOf (leafOf (u .group))) (mapBitOf (leafOf (u .group))) (mapByteOf-lt (leafOf (u .group)))
         ∙ ap (λ (c : List ℕ). bitOn c (leafOf (u .group))) (shown i (mapBlock n (u .group)) h) ∙ A .bits (leafOf (u .group)) bit-ok none
 
   here : Same (blocks n) l r r
@@ -193,7 +189,7 @@ module _ (n t l hand x : ℕ) (ts : List Tracker) (r : Rows) (lim : limits n t l
   map-in = brings-in r hand (mapBlock n (u .group)) (A .good) v few fit map-ok small
 
   leaf-small : leafOf (u .group) < blocks n
-  leaf-small = omega (arith, group-ok)
+  leaf-small = omega (arith, leaf-ok)
 
   leaf-brings : Brings (blocks n) l t (heldOf n ts) r (leafOf (u .group)) (bringIn l hand (leafOf (u .group)) r)
   leaf-brings = brings r hand (leafOf (u .group)) v few fit hl leaf-small small
@@ -330,13 +326,13 @@ module _ (n t l hand x : ℕ) (ts : List Tracker) (r : Rows) (lim : limits n t l
       f64 = line-64 here j (A .good .low j fm in-j)
 
       flong : length fbytes ≡ length (r .bytes)
-      flong = bit-whole (r .bytes) j f64 fo fb bit (omega arith) (omega arith)
+      flong = bit-whole (r .bytes) j f64 fo fb bit (mapByteOf-lt _) (mapBitOf-lt _)
 
       fhere : lineBytes fbytes j ≡ fy
-      fhere = bit-here (r .bytes) j f64 fo fb bit (omega arith) (omega arith)
+      fhere = bit-here (r .bytes) j f64 fo fb bit (mapByteOf-lt _) (mapBitOf-lt _)
 
       fthere : (i : ℕ) → i < l → (i ≡ j → ⊥) → lineBytes fbytes i ≡ lineBytes (r .bytes) i
-      fthere i q ne = bit-there (r .bytes) j f64 fo fb bit (omega arith) (omega arith) i (line-64 here i q) ne
+      fthere i q ne = bit-there (r .bytes) j f64 fo fb bit (mapByteOf-lt _) (mapBitOf-lt _) i (line-64 here i q) ne
 
       bit-write : Writing (blocks n) l r j fm fbytes fy
       bit-write = record { has-it = in-j; small = small; long = flong; here = fhere; there = fthere }
@@ -403,22 +399,22 @@ module _ (n t l hand x : ℕ) (ts : List Tracker) (r : Rows) (lim : limits n t l
           b64 = line-64 (leaf-in .rows) (b .line) (leaf-brings .line-lt)
 
           whole-long : length (bytesWith u b) ≡ length (b .rows .bytes)
-          whole-long = group-whole (b .rows .bytes) (b .line) b64 (byteOf (u .group)) (u .value) (omega arith)
+          whole-long = group-whole (b .rows .bytes) (b .line) b64 (byteOf (u .group)) (u .value) (byteOf-lt (u .group))
 
           put-in-line : lineBytes (bytesWith u b) (b .line) ≡ withV
-          put-in-line = group-here (b .rows .bytes) (b .line) b64 (byteOf (u .group)) (u .value) (omega arith)
+          put-in-line = group-here (b .rows .bytes) (b .line) b64 (byteOf (u .group)) (u .value) (byteOf-lt (u .group))
 
           put-not-there : (i : ℕ) → i < l → (i ≡ b .line → ⊥) → lineBytes (bytesWith u b) i ≡ lineBytes (b .rows .bytes) i
-          put-not-there i q n' = group-there (b .rows .bytes) (b .line) b64 (byteOf (u .group)) (u .value) (omega arith) i (line-64 (leaf-in .rows) i q) n'
+          put-not-there i q n' = group-there (b .rows .bytes) (b .line) b64 (byteOf (u .group)) (u .value) (byteOf-lt (u .group)) i (line-64 (leaf-in .rows) i q) n'
 
           put-write : Writing (blocks n) l (b .rows) (b .line) (leafOf (u .group)) (bytesWith u b) withV
           put-write = record { has-it = leaf-brings .has-it; small = small; long = whole-long; here = put-in-line; there = put-not-there }
 
           v-long : length withV ≡ 64
-          v-long = group-length (b .rows .bytes) (b .line) b64 (byteOf (u .group)) (u .value) (omega arith)
+          v-long = group-length (b .rows .bytes) (b .line) b64 (byteOf (u .group)) (u .value) (byteOf-lt (u .group))
 
           old-groups : (g : ℕ) → leafOf g ≡ leafOf (u .group) → row g ≡ groupAt leafBytes (byteOf g)
-          old-groups g e = A .live g (omega (arith, group-ok)) (rw e tg) ∙ ap (λ (i : ℕ). groupAt (content l r i) (byteOf g)) e
+          old-groups g e = A .live g (group-lt n g (omega (arith, leaf-ok))) (rw e tg) ∙ ap (λ (i : ℕ). groupAt (content l r i) (byteOf g)) e
               ∙ ap (λ (c : List ℕ). groupAt c (byteOf g)) (sym (shown (leaf-in .rows) (b .line) (leafOf (u .group)) (leaf-brings .has-it)))
 
           new-groups : (g : ℕ) → leafOf g ≡ leafOf (u .group) → put row (u .group) (u .value) g ≡ groupAt withV (byteOf g)

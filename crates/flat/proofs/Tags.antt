@@ -8,6 +8,8 @@ use native.Mathlib.Omega.{arith}
 use lib.Dec.{eqb}
 use borrow.Author.Tests.{eq-eqb, eqb-true}
 use lib.ListN.{length}
+use Rattle.geometry.proofs.Places.{slotOf, slotOf-lt, groupOn-slotOf, leafOf-groupOn, byteOf-groupOn}
+use Rattle.geometry.specs.TagMemory.{groups, groupOn}
 use Rattle.laws.specs.Choice.{no}
 use Rattle.laws.proofs.Choice.{true-or-false, no-false, not-both-ways}
 use Rattle.laws.proofs.Scan.{all-at, all-is, all-same}
@@ -20,8 +22,8 @@ module _ (row : Row) (k : ℕ) where
   pub untagged : tagged row k ≡ false → (g : ℕ) → leafOf g ≡ k → row g ≡ 0
   unfolding tagged
   untagged e g q =
-      let z : eqb (row (16 * k + g % 16)) 0 ≡ true = all-at (λ j. eqb (row (16 * k + j)) 0) 16 (no-false _ e) (g % 16) (omega arith) in
-      let p : 16 * k + g % 16 ≡ g = omega arith in
+      let z : eqb (row (groupOn k (slotOf g))) 0 ≡ true = all-at (λ j. eqb (row (groupOn k j)) 0) 16 (no-false _ e) (slotOf g) (slotOf-lt g) in
+      let p : groupOn k (slotOf g) ≡ g = rw (← q) (groupOn-slotOf g) in
       ap row (sym p) ∙ eqb-true _ _ z
 
   pub tagged-at : (g : ℕ) → leafOf g ≡ k → (row g ≡ 0 → ⊥) → tagged row k ≡ true
@@ -29,11 +31,11 @@ module _ (row : Row) (k : ℕ) where
 
   pub tagged-none : ((g : ℕ) → leafOf g ≡ k → row g ≡ 0) → tagged row k ≡ false
   unfolding tagged no
-  tagged-none f = rw (all-is (λ j. eqb (row (16 * k + j)) 0) 16 (λ j q. eq-eqb _ _ (f (16 * k + j) (omega arith))))
+  tagged-none f = rw (all-is (λ j. eqb (row (groupOn k j)) 0) 16 (λ j q. eq-eqb _ _ (f (groupOn k j) (leafOf-groupOn k j q))))
 
   pub tagged-same : (row' : Row) → ((g : ℕ) → leafOf g ≡ k → row' g ≡ row g) → tagged row' k ≡ tagged row k
   unfolding tagged
-  tagged-same row' f = ap no (all-same (λ j. eqb (row' (16 * k + j)) 0) (λ j. eqb (row (16 * k + j)) 0) 16 (λ j q. ap (λ (v : ℕ). eqb v 0) (f (16 * k + j) (omega arith))))
+  tagged-same row' f = ap no (all-same (λ j. eqb (row' (groupOn k j)) 0) (λ j. eqb (row (groupOn k j)) 0) 16 (λ j q. ap (λ (v : ℕ). eqb v 0) (f (groupOn k j) (leafOf-groupOn k j q))))
 
   -- a leaf whose groups are the row's is tagged exactly if some byte is not zero
   pub tagged-leaf : (c : List ℕ) → length c ≡ 64 → ((g : ℕ) → leafOf g ≡ k → row g ≡ groupAt c (byteOf g)) → tagged row k ≡ no (allZero c)
@@ -46,8 +48,7 @@ module _ (row : Row) (k : ℕ) where
         where
           zero-at : (j : ℕ) → j < 16 → tagged row k ≡ false → groupAt c (4 * j) ≡ 0
           zero-at j q e =
-              let p : 4 * ((16 * k + j) % 16) ≡ 4 * j = omega arith in
-              ap (groupAt c) (sym p) ∙ sym (f (16 * k + j) (omega arith)) ∙ untagged e (16 * k + j) (omega arith)
+              ap (groupAt c) (sym (byteOf-groupOn k j q)) ∙ sym (f (groupOn k j) (leafOf-groupOn k j q)) ∙ untagged e (groupOn k j) (leafOf-groupOn k j q)
 
   module _ (c : List ℕ) (lc : length c ≡ 64) (f : (g : ℕ) → leafOf g ≡ k → row g ≡ groupAt c (byteOf g)) where
     pub tagged-empty : allZero c ≡ true → tagged row k ≡ false

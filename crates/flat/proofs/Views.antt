@@ -10,6 +10,7 @@ use lib.Dec.{eqb}
 use borrow.Author.Tests.{eq-eqb, ne-eqb}
 use lib.ListN.{length, getD, set, replicate, length-set}
 use lib.Seq.{ext-getD, getD-set-same, getD-set-other}
+use Rattle.geometry.proofs.Places.{byteOf-lt, byteOf-apart}
 use Rattle.laws.specs.Choice.{pick, both}
 use Rattle.laws.specs.Scan.{all}
 use Rattle.laws.specs.Bits.{withBit}
@@ -130,14 +131,10 @@ module _ (m : List ℕ) (b : ℕ) (h : Has64 m b) where
 -- One block of 64 bytes as its 16 groups.
 module _ (c : List ℕ) (lc : length c ≡ 64) where
   pub group-same : (g v : ℕ) → v < 4294967296 → groupAt (putGroup c (byteOf g) v) (byteOf g) ≡ v
-  group-same g v q = groupAt-putGroup-same c (byteOf g) v (omega arith) q
+  group-same g v q = groupAt-putGroup-same c (byteOf g) v (omega (arith, byteOf-lt g)) q
 
   pub group-other : (g h v : ℕ) → leafOf h ≡ leafOf g → (h ≡ g → ⊥) → groupAt (putGroup c (byteOf g) v) (byteOf h) ≡ groupAt c (byteOf h)
-  group-other g h v e n = groupAt-putGroup-other c (byteOf g) v (byteOf h) (omega arith) (omega arith) (sides (decLt (h % 16) (g % 16)))
-    where
-      sides : Dec (h % 16 < g % 16) → (byteOf h + 4 ≤ byteOf g) ⊎ (byteOf g + 4 ≤ byteOf h)
-      sides (yes q) = inl (omega arith)
-      sides (no q) = inr (omega arith)
+  group-other g h v e n = groupAt-putGroup-other c (byteOf g) v (byteOf h) (omega (arith, byteOf-lt g)) (omega (arith, byteOf-lt h)) (byteOf-apart h g e n)
 
   -- the groups of the leaf with v put in
   pub put-groups : (g h v : ℕ) → v < 4294967296 → leafOf h ≡ leafOf g → groupAt (putGroup c (byteOf g) v) (byteOf h) ≡ put (λ i. groupAt c (byteOf i)) g v h
@@ -149,6 +146,7 @@ module _ (c : List ℕ) (lc : length c ≡ 64) where
 
   pub empty-group : (g : ℕ) → allZero c ≡ true → groupAt c (byteOf g) ≡ 0
   empty-group g z =
+      let low = byteOf-lt g in
       let e0 = allZero-at c z (byteOf g) (omega arith) in
       let e1 = allZero-at c z (byteOf g + 1) (omega arith) in
       let e2 = allZero-at c z (byteOf g + 2) (omega arith) in
@@ -167,6 +165,7 @@ module _ (c : List ℕ) (lc : length c ≡ 64) where
 
   pub put-long : (g v : ℕ) → length (putGroup c (byteOf g) v) ≡ 64
   put-long g v =
+      let low = byteOf-lt g in
       let l4 : length (bytes 4 v) ≡ 4 = length-bytes 4 v in
       ap length (putGroup-fits c (byteOf g) v (omega arith)) ∙ length-splice c (byteOf g) (bytes 4 v) (omega arith) ∙ lc
 

@@ -5,6 +5,8 @@ use mathlib.Core.List.{List, [], _∷_}
 use Prim.Native.Nat.{ℕ}
 use native.Mathlib.Omega.{arith}
 use lib.ListN.{replicate}
+use Rattle.geometry.specs.TagMemory.{leafOf, byteOf, groups, mapBlockOf, mapByteOf, mapBitOf, mapBlocks}
+use Rattle.laws.specs.Refusal.{refusal, unless}
 use Rattle.laws.specs.Choice.{both, implies, no}
 use Rattle.laws.specs.Bytes.{part, splice, fits, putW, value, bytes, numberAt}
 use Rattle.laws.specs.Scan.{first, all}
@@ -49,9 +51,9 @@ said = ok ∷ ok ∷ moved ∷ moved ∷ read 10 1
     ∷ ok ∷ []
 
 -- the tracker and the group of each effect
-abbrev groups : List Effect → List ℕ
-groups [] = []
-groups (e ∷ es) = e .who ∷ e .access .group ∷ groups es
+abbrev named : List Effect → List ℕ
+named [] = []
+named (e ∷ es) = e .who ∷ e .access .group ∷ named es
 
 -- each value is an unsigned 32-bit number
 values : Values32 calls
@@ -62,7 +64,7 @@ pub record Worked : Type 0 where
   pub answered : answers begun calls ≡ said
   pub flat-answered : flatAnswers (flatOf begun) (given begun calls) ≡ said
   -- the first write has its moment before the read, and ends after it
-  pub moments : groups (effects (flatOf begun) (given begun calls)) ≡ 0 ∷ 17 ∷ 1 ∷ 17 ∷ 1 ∷ 33 ∷ 0 ∷ 49 ∷ 1 ∷ 17 ∷ 0 ∷ 33 ∷ []
+  pub moments : named (effects (flatOf begun) (given begun calls)) ≡ 0 ∷ 17 ∷ 1 ∷ 17 ∷ 1 ∷ 33 ∷ 0 ∷ 49 ∷ 1 ∷ 17 ∷ 0 ∷ 33 ∷ []
   -- lines were taken from other blocks: the hand has moved on
   pub evicted : ended begun calls .state .hand ≡ 2
   pub rests : atRest (ended begun calls) ≡ true
@@ -72,7 +74,7 @@ pub record Worked : Type 0 where
   pub row-emptied : flatEnded (flatOf begun) (given begun calls) .row 33 ≡ 0
 
 pub worked : Worked
-unfolding both implies no part splice fits putW value bytes numberAt first all bitOf withBit inLimits bitAt putBit allZero blockOr0 leafBit plainGroup trueAt isTrue clearedMap used blockOf changed holder held has word heldBy cleaned lineOf lowestFree looseFrom victim after lengthsRight limits holds lineWhole trackerWhole whole rowsFit placeLine placeHand writtenBack placeMemory bringIn drained probe onMap map leafRead putIn writeUnder1 writeUnder0 leafWrite finish inLine fit turnOf fresh issueNo issue stepNo step allIdle drainNo drain does answers ended tagged someHolds flatIssue flatStep flatDrain flatDoes flatAnswers flatEnded effects found given atRest
+unfolding both implies no refusal unless leafOf byteOf groups mapBlockOf mapByteOf mapBitOf mapBlocks part splice fits putW value bytes numberAt first all bitOf withBit inLimits bitAt putBit allZero blockOr0 leafBit plainGroup trueAt isTrue clearedMap used blockOf changed holder held has word heldBy cleaned lineOf lowestFree looseFrom victim after lengthsRight limits holds lineWhole trackerWhole whole rowsFit placeLine placeHand writtenBack placeMemory bringIn drained probe onMap map leafRead putIn writeUnder1 writeUnder0 leafWrite finish inLine fit turnOf fresh issueNo issue stepNo step allIdle drainNo drain does answers ended tagged someHolds flatIssue flatStep flatDrain flatDoes flatAnswers flatEnded effects found given atRest
 worked = record {
   accepted = refl;
   answered = refl;

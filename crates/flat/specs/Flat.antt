@@ -5,8 +5,10 @@ use mathlib.Core.Bool.{Bool, true, false}
 use Prim.Native.Nat.{ℕ, _+_, _*_}
 use lib.Dec.{eqb, ltb}
 use lib.ListN.{set}
+use Rattle.geometry.specs.TagMemory.{groups, groupOn}
 use Rattle.laws.specs.Choice.{pick, both, implies, no}
 use Rattle.laws.specs.Scan.{all}
+use Rattle.laws.specs.Refusal.{refusal, unless}
 use Rattle.geometry.specs.TagMemory.{leafOf}
 use Rattle.tracker.specs.declared.Phase.{Phase}
 use Rattle.tracker.specs.declared.Phase.the-variants.{Idle, Probe, Map, Leaf, Set, Clear}
@@ -16,6 +18,7 @@ use Rattle.tracker.specs.Answer.{Said, ok, wait, moved, read, done, same}
 use Rattle.rules.specs.State.{trackerAt, lengthsRight}
 use Rattle.rules.specs.Whole.{mapBlock, holds}
 use Rattle.rules.specs.Step.{turnsOf}
+use Rattle.rules.specs.Calls.{issueTests, stepTests, drainTests}
 use Rattle.rules.specs.Run.{Call, issues, steps, drains, lends}
 
 abbrev pub Row : Type 0
@@ -27,7 +30,7 @@ put row g v h = pick (eqb h g) v (row h)
 
 -- leaf k has a tag: one of its 16 groups is not zero
 unfoldable pub tagged : Row → ℕ → Bool
-tagged row k = no (all (λ j. eqb (row (16 * k + j)) 0) 16)
+tagged row k = no (all (λ j. eqb (row (groupOn k j)) 0) 16)
 
 -- An access done whole on the row: the row after it, and what it says.
 abbrev pub after : Row → Tracker → Row
@@ -143,20 +146,16 @@ refuse c f = record { said = Said.no c; flat = f; effect = [] }
 -- "tracker number T or more" 5, "group 16n or more" 6, "issue to a busy tracker" 7
 unfoldable pub flatIssue : Flat → ℕ → (write bottom : Bool) → ℕ → ℕ → Reply
 flatIssue f x write bottom g v =
-    pick (ltb x (f .t))
-    (pick (ltb g (16 * f .n))
-    (pick (isIdle (trackerAt (f .trackers) x)) (record { said = ok; flat = withRow f (f .row) x (issued write bottom g v); effect = [] }) (refuse 7 f))
-    (refuse 6 f))
-    (refuse 5 f)
+    unless (refusal (issueTests (f .n) (f .t) x g (trackerAt (f .trackers) x)))
+    (record { said = ok; flat = withRow f (f .row) x (issued write bottom g v); effect = [] }) (λ c. refuse c f)
 
 -- "tracker number T or more" 5, "step of an idle tracker" 8
 unfoldable pub flatStep : Flat → Bool → ℕ → Reply
 flatStep f found x =
     let t = trackerAt (f .trackers) x in
     let c = courseOf f found x in
-    pick (ltb x (f .t))
-    (pick (isIdle t) (refuse 8 f) (record { said = says (f .row) t c; flat = withRow f (rowBy (f .row) t c) x (trackerBy t c); effect = effectBy x t c }))
-    (refuse 5 f)
+    unless (refusal (stepTests (f .t) x t))
+    (record { said = says (f .row) t c; flat = withRow f (rowBy (f .row) t c) x (trackerBy t c); effect = effectBy x t c }) (λ r. refuse r f)
 
 -- every access is at rest
 abbrev pub allRest : Flat → Bool
@@ -164,7 +163,7 @@ allRest f = all (λ x. isIdle (trackerAt (f .trackers) x)) (f .t)
 
 -- "drain .. with any busy" 7: accepted exactly if all are at rest
 unfoldable pub flatDrain : Flat → Reply
-flatDrain f = pick (allRest f) (record { said = ok; flat = f; effect = [] }) (refuse 7 f)
+flatDrain f = unless (refusal (drainTests (allRest f))) (record { said = ok; flat = f; effect = [] }) (λ c. refuse c f)
 
 -- one call; "a lent length differs from the rule" 2
 unfoldable pub flatDoes : Flat → Bool → Call → Reply

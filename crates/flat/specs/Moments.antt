@@ -2,6 +2,7 @@
 use mathlib.Core.List.{List, [], _∷_}
 use Prim.Native.Nat.{ℕ, _+_}
 use lib.Dec.{eqb}
+use Rattle.tracker.specs.Tracker.{isIdleAt, atFinish}
 use Rattle.laws.specs.Choice.{pick}
 use Rattle.tracker.specs.declared.Phase.{Phase}
 use Rattle.tracker.specs.declared.Phase.the-variants.{Idle, Probe, Map, Leaf, Set, Clear}
@@ -11,12 +12,7 @@ use Rattle.flat.specs.Flat.{Flat, Given, Effect, flatDoes}
 
 -- 1 for an access whose moment is to come: it was issued, and is not yet at Finish
 abbrev pub toCome : Phase → ℕ
-toCome Idle = 0
-toCome Probe = 1
-toCome Map = 1
-toCome Leaf = 1
-toCome Set = 0
-toCome Clear = 0
+toCome p = pick (isIdleAt p) 0 (pick (atFinish p) 0 1)
 
 -- 1 for a call that issues an access to tracker x, where it says ok
 abbrev pub issueTo : ℕ → Said → Call → ℕ

@@ -1,13 +1,16 @@
 -- In a whole state a line is its turn on the one tracker that it names, and leaves a whole state: the laws of rules, case by case.
-use mathlib.Core.Path.{_≡_, refl, _∙_}
-use mathlib.Core.Bool.{Bool, true, false}
-use mathlib.Core.List.{List}
-use mathlib.Core.Logic.{_⊎_, inl, inr}
+use mathlib.Core.Path.{_≡_, refl, sym, _∙_}
+use mathlib.Core.Bool.{Bool, true, false, not}
+use mathlib.Core.List.{List, [], _∷_}
+use mathlib.Core.Logic.{_⊎_, inl, inr, ⊎-elim}
 use Prim.Native.Nat.{ℕ, _*_, _≤_, _<_}
 use lib.Dec.{ltb}
 use lib.Seq.{set-getD}
 use borrow.Author.Tests.{lt-ltb, le-ltb}
+use Rattle.geometry.specs.TagMemory.{groups}
 use Rattle.laws.specs.Choice.{pick}
+use Rattle.laws.specs.Refusal.{Tests, refusal, unless}
+use Rattle.laws.proofs.Refusal.{refusal-first, refused-or-not, unless-0, unless-no}
 use Rattle.laws.proofs.Choice.{true-or-false}
 use Rattle.laws.proofs.Splice.{lt-or-ge}
 use Rattle.tracker.specs.declared.Tracker.{Tracker}
@@ -17,12 +20,13 @@ use Rattle.script.specs.Script.{Asks, news, reads, writes, steps, drains, bad}
 use Rattle.rules.specs.State.{State, Rows, trackerAt, lengthsRight}
 use Rattle.rules.specs.Whole.{whole}
 use Rattle.rules.specs.Place.{drained}
-use Rattle.rules.specs.Step.{refuses, turnOf}
-use Rattle.rules.specs.Calls.{refused, issue, step, drain, stepped, allIdle}
+use Rattle.rules.specs.Step.{Turned, refuses, turnOf}
+use Rattle.rules.specs.Calls.{refused, issueTests, issue, stepTests, step, drain, stepped, allIdle}
 use Rattle.rules.specs.Run.{does}
-use Rattle.rules.proofs.Calls.{Sound, rows-fit, refused-sound, step-is, step-idle, step-past, step-kept, issue-past, issue-group, issue-busy, issue-accepted, issue-kept, drain-is, drain-busy, drain-kept}
+use Rattle.rules.proofs.Calls.{Sound, rows-fit, refused-sound, step-is, step-refused, step-free, step-kept, issue-refused, issue-accepted, issue-free, issue-kept, drain-is, drain-busy, drain-kept}
 use Rattle.lines.specs.Lines.{rows, drainedRows}
 use Rattle.play.specs.Play.{follows}
+use Rattle.play.proofs.Ways.{drain-busy as turn-busy, drain-accepted as turn-accepted}
 use Rattle.play.specs.Turn.{named, issueTurn, stepTurn, drainTurn, lineTurn}
 
 below-lt : (t x : ℕ) → 0 < t → pick (ltb x t) x 0 < t
@@ -58,36 +62,40 @@ module _ (s : State) (bytes memory : List ℕ) (w : whole s ≡ true) (len : len
   unfolding drainedRows
   drained-fit = rw (rows-fit s bytes memory w len)
 
+  -- the tests of the tracker that a number names are those of its tracker: a number that names none fails the first
+  module _ (x : ℕ) (ts : Tracker → Tests) where
+    own-no : refusal ((ltb x (s .t), 5) ∷ ts (trackerAt (s .trackers) x)) ≡ refusal ((ltb x (s .t), 5) ∷ ts (own x))
+    own-no = ⊎-elim (λ q. rw (lt-ltb x (s .t) q)) (λ q. refusal-first [] _ _ _ tt (le-ltb _ _ q) ∙ sym (refusal-first [] _ _ _ tt (le-ltb _ _ q))) (lt-or-ge x (s .t))
+
+  -- a call refused, and its turn
+  refused-turn : (x c d : ℕ) (o : Turned) → c ≡ d → 0 < c
+      → refused c s bytes memory ≡ stepped s (pick (ltb x (s .t)) x 0) (unless d o (λ i. refuses i (own x) (s .hand) lent))
+  refused-turn x c d o e h = stays c (pick (ltb x (s .t)) x 0) ∙ rw (e, unless-no o (λ i. refuses i (own x) (s .hand) lent) (rw e at h)) refl
+
   step-turn : (x : ℕ) → step s bytes memory x ≡ stepped s (pick (ltb x (s .t)) x 0) (stepTurn (s .n) (s .t) (s .l) (s .hand) x (own x) lent)
   unfolding stepTurn
-  step-turn x = by (lt-or-ge x (s .t)) (true-or-false (isIdle (trackerAt (s .trackers) x)))
-    where
-      by : (x < s .t) ⊎ (s .t ≤ x) → (isIdle (trackerAt (s .trackers) x) ≡ true) ⊎ (isIdle (trackerAt (s .trackers) x) ≡ false)
-          → step s bytes memory x ≡ stepped s (pick (ltb x (s .t)) x 0) (pick (ltb x (s .t)) (pick (isIdle (own x)) (refuses 8 (own x) (s .hand) lent) (turnOf (s .n) (s .l) (s .hand) x (own x) lent)) (refuses 5 (own x) (s .hand) lent))
-      by (inl q) (inl e) = rw (lt-ltb _ _ q, e) (step-idle s bytes memory w len x q e ∙ stays 8 x)
-      by (inl q) (inr e) = rw (lt-ltb _ _ q, e) (step-is s bytes memory w len x q e)
-      by (inr q) e = rw (le-ltb _ _ q) (step-past s bytes memory w len x q ∙ stays 5 0)
+  step-turn x =
+      let q = own-no x (λ u. (not (isIdle u), 8) ∷ []) in
+      ⊎-elim
+      (λ e. let h = step-free s bytes memory w len x e in
+      step-is s bytes memory w len x (h .0) (h .1) ∙ rw (unless-0 (turnOf (s .n) (s .l) (s .hand) x (own x) lent) (λ i. refuses i (own x) (s .hand) lent) (sym q ∙ e), lt-ltb x (s .t) (h .0)) refl)
+      (λ h. step-refused s bytes memory w len x h ∙ refused-turn x _ _ _ q h) (refused-or-not (refusal (stepTests (s .t) x (trackerAt (s .trackers) x))))
 
   issue-turn : (x : ℕ) (write bottom : Bool) (g v : ℕ)
       → issue s bytes memory x write bottom g v ≡ stepped s (pick (ltb x (s .t)) x 0) (issueTurn (s .n) (s .t) (s .hand) x write bottom g v (own x) lent)
   unfolding issueTurn
-  issue-turn x write bottom g v = by (lt-or-ge x (s .t)) (lt-or-ge g (16 * s .n)) (true-or-false (isIdle (trackerAt (s .trackers) x)))
-    where
-      by : (x < s .t) ⊎ (s .t ≤ x) → (g < 16 * s .n) ⊎ (16 * s .n ≤ g) → (isIdle (trackerAt (s .trackers) x) ≡ true) ⊎ (isIdle (trackerAt (s .trackers) x) ≡ false)
-          → issue s bytes memory x write bottom g v ≡ stepped s (pick (ltb x (s .t)) x 0) (pick (ltb x (s .t)) (pick (ltb g (16 * s .n)) (pick (isIdle (own x)) (record { said = ok; hand = s .hand; tracker = issued write bottom g v; rows = lent }) (refuses 7 (own x) (s .hand) lent)) (refuses 6 (own x) (s .hand) lent)) (refuses 5 (own x) (s .hand) lent))
-      by (inr q) a e = rw (le-ltb _ _ q) (issue-past s bytes memory w len x write bottom g v q ∙ stays 5 0)
-      by (inl q) (inr a) e = rw (lt-ltb _ _ q, le-ltb _ _ a) (issue-group s bytes memory w len x write bottom g v q a ∙ stays 6 x)
-      by (inl q) (inl a) (inr e) = rw (lt-ltb _ _ q, lt-ltb _ _ a, e) (issue-busy s bytes memory w len x write bottom g v q a e ∙ stays 7 x)
-      by (inl q) (inl a) (inl e) = rw (lt-ltb _ _ q, lt-ltb _ _ a, e) (issue-accepted s bytes memory w len x write bottom g v q a e)
+  issue-turn x write bottom g v =
+      let q = own-no x (λ u. (ltb g (groups (s .n)), 6) ∷ (isIdle u, 7) ∷ []) in
+      ⊎-elim
+      (λ e. let h = issue-free s bytes memory w len x write bottom g v e in
+      issue-accepted s bytes memory w len x write bottom g v e
+      ∙ rw (unless-0 (record { said = ok; hand = s .hand; tracker = issued write bottom g v; rows = lent }) (λ i. refuses i (own x) (s .hand) lent) (sym q ∙ e), lt-ltb x (s .t) (h .0)) refl)
+      (λ h. issue-refused s bytes memory w len x write bottom g v h ∙ refused-turn x _ _ _ q h) (refused-or-not (refusal (issueTests (s .n) (s .t) x g (trackerAt (s .trackers) x))))
 
   drain-turn : drain s bytes memory ≡ stepped s 0 (drainTurn (s .l) (s .hand) (trackerAt (s .trackers) 0) (allIdle s) lent)
-  unfolding drainTurn
-  drain-turn = by (true-or-false (allIdle s))
-    where
-      by : (allIdle s ≡ true) ⊎ (allIdle s ≡ false)
-          → drain s bytes memory ≡ stepped s 0 (pick (allIdle s) (record { said = ok; hand = s .hand; tracker = trackerAt (s .trackers) 0; rows = rows (drainedRows (s .l) lent .lines) bytes (drainedRows (s .l) lent .memory) }) (refuses 7 (trackerAt (s .trackers) 0) (s .hand) lent))
-      by (inl e) = rw (e, drained-fit, set-getD) (drain-is s bytes memory w len e)
-      by (inr e) = rw e (drain-busy s bytes memory w len e ∙ stays 7 0)
+  drain-turn =
+      ⊎-elim (λ e. drain-is s bytes memory w len e ∙ rw (turn-accepted (s .l) (s .hand) (trackerAt (s .trackers) 0) (allIdle s) lent e, drained-fit, set-getD) refl)
+      (λ e. drain-busy s bytes memory w len e ∙ stays 7 0 ∙ rw (turn-busy (s .l) (s .hand) (trackerAt (s .trackers) 0) (allIdle s) lent e) refl) (true-or-false (allIdle s))
 
   -- a line is its turn on the tracker that it names
   pub follows-turn : (a : Asks) (rest : Bool) → (a ≡ drains → rest ≡ allIdle s)

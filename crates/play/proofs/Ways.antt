@@ -7,6 +7,8 @@ use native.Mathlib.Omega.{arith}
 use lib.Dec.{eqb, ltb}
 use lib.ListN.{length, getD}
 use borrow.Author.Tests.{ltb-true, lt-ltb, le-ltb, le-leb, lt-leb, eq-eqb, ne-eqb}
+use Rattle.geometry.specs.TagMemory.{groups}
+use Rattle.laws.specs.Refusal.{refusal, unless}
 use Rattle.laws.specs.Choice.{pick, both}
 use Rattle.laws.specs.Bytes.{fits}
 use Rattle.laws.specs.Scan.{first}
@@ -37,44 +39,44 @@ by-rule e s = rw e s
 -- issue
 module _ (n t hand x : ℕ) (write bottom : Bool) (g v : ℕ) (u : Tracker) (r : Rows) where
   pub issue-past : t ≤ x → issueTurn n t hand x write bottom g v u r ≡ refuses 5 u hand r
-  unfolding issueTurn
+  unfolding issueTurn refusal unless
   issue-past q = rw (le-ltb _ _ q)
 
   pub issue-group : x < t → 16 * n ≤ g → issueTurn n t hand x write bottom g v u r ≡ refuses 6 u hand r
-  unfolding issueTurn
+  unfolding issueTurn refusal unless groups
   issue-group q p = rw (lt-ltb _ _ q, le-ltb _ _ p)
 
   pub issue-busy : x < t → g < 16 * n → isIdle u ≡ false → issueTurn n t hand x write bottom g v u r ≡ refuses 7 u hand r
-  unfolding issueTurn
+  unfolding issueTurn refusal unless groups
   issue-busy q p e = rw (lt-ltb _ _ q, lt-ltb _ _ p, e)
 
   pub issue-accepted : x < t → g < 16 * n → isIdle u ≡ true → issueTurn n t hand x write bottom g v u r ≡ (record { said = ok; hand = hand; tracker = issued write bottom g v; rows = r })
-  unfolding issueTurn
+  unfolding issueTurn refusal unless groups
   issue-accepted q p e = rw (lt-ltb _ _ q, lt-ltb _ _ p, e)
 
 -- step
 module _ (n t l hand x : ℕ) (u : Tracker) (r : Rows) where
   pub step-past : t ≤ x → stepTurn n t l hand x u r ≡ refuses 5 u hand r
-  unfolding stepTurn
+  unfolding stepTurn refusal unless
   step-past q = rw (le-ltb _ _ q)
 
   pub step-idle : x < t → isIdle u ≡ true → stepTurn n t l hand x u r ≡ refuses 8 u hand r
-  unfolding stepTurn
+  unfolding stepTurn refusal unless
   step-idle q e = rw (lt-ltb _ _ q, e)
 
   pub step-goes : x < t → isIdle u ≡ false → stepTurn n t l hand x u r ≡ turnOf n l hand x u r
-  unfolding stepTurn
+  unfolding stepTurn refusal unless
   step-goes q e = rw (lt-ltb _ _ q, e)
 
 -- drain
 module _ (l hand : ℕ) (u : Tracker) (resting : Bool) (r : Rows) where
   pub drain-busy : resting ≡ false → drainTurn l hand u resting r ≡ refuses 7 u hand r
-  unfolding drainTurn
+  unfolding drainTurn refusal unless
   drain-busy e = rw e
 
   pub drain-accepted : resting ≡ true
       → drainTurn l hand u resting r ≡ (record { said = ok; hand = hand; tracker = u; rows = rows (drainedRows l r .lines) (r .bytes) (drainedRows l r .memory) })
-  unfolding drainTurn
+  unfolding drainTurn refusal unless
   drain-accepted e = rw e
 
 -- a line by its command
@@ -226,7 +228,7 @@ module _ (s : State) (bytes memory : List ℕ) where
 -- line 1
 module _ (bytes memory : List ℕ) where
   pub refused-of : (c : ℕ) {o : Out} → o ≡ fresh 0 0 0 bytes memory → (record { said = no c; state = o .state; bytes = o .bytes; memory = o .memory }) ≡ refused c zeroState bytes memory
-  unfolding fresh limits inLimits both
+  unfolding fresh limits inLimits both refusal unless
   refused-of c e = rw e refl
 
   pub begins-large : (n l t : ℕ) → 800 < n → begins (news n l t) bytes memory ≡ refused 1 zeroState bytes memory

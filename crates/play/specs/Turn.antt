@@ -3,12 +3,14 @@ use mathlib.Core.Bool.{Bool, true, false}
 use Prim.Native.Nat.{ℕ, _*_}
 use lib.Dec.{ltb}
 use Rattle.laws.specs.Choice.{pick}
+use Rattle.laws.specs.Refusal.{refusal, unless}
 use Rattle.tracker.specs.declared.Tracker.{Tracker}
 use Rattle.tracker.specs.Tracker.{isIdle, issued}
 use Rattle.tracker.specs.Answer.{ok}
 use Rattle.script.specs.Script.{Asks, news, reads, writes, steps, drains, bad}
 use Rattle.rules.specs.State.{Rows}
 use Rattle.rules.specs.Step.{Turned, refuses, turnOf}
+use Rattle.rules.specs.Calls.{issueTests, stepTests, drainTests}
 use Rattle.lines.specs.Lines.{rows, drainedRows}
 
 -- the tracker, of t, that a line names; 0 where it names none
@@ -23,22 +25,18 @@ named t bad = 0
 -- an issue to tracker x, which is u
 unfoldable pub issueTurn : (n t hand x : ℕ) → (write bottom : Bool) (g v : ℕ) → Tracker → Rows → Turned
 issueTurn n t hand x write bottom g v u r =
-    pick (ltb x t)
-    (pick (ltb g (16 * n))
-    (pick (isIdle u) (record { said = ok; hand = hand; tracker = issued write bottom g v; rows = r }) (refuses 7 u hand r))
-    (refuses 6 u hand r))
-    (refuses 5 u hand r)
+    unless (refusal (issueTests n t x g u)) (record { said = ok; hand = hand; tracker = issued write bottom g v; rows = r }) (λ c. refuses c u hand r)
 
 -- a step of tracker x, which is u
 unfoldable pub stepTurn : (n t l hand x : ℕ) → Tracker → Rows → Turned
-stepTurn n t l hand x u r = pick (ltb x t) (pick (isIdle u) (refuses 8 u hand r) (turnOf n l hand x u r)) (refuses 5 u hand r)
+stepTurn n t l hand x u r = unless (refusal (stepTests t x u)) (turnOf n l hand x u r) (λ c. refuses c u hand r)
 
 -- a drain; `resting` says whether every tracker is idle
 unfoldable pub drainTurn : (l hand : ℕ) → Tracker → (resting : Bool) → Rows → Turned
 drainTurn l hand u resting r =
-    pick resting
+    unless (refusal (drainTests resting))
     (record { said = ok; hand = hand; tracker = u; rows = rows (drainedRows l r .lines) (r .bytes) (drainedRows l r .memory) })
-    (refuses 7 u hand r)
+    (λ c. refuses c u hand r)
 
 unfoldable pub lineTurn : (n t l hand : ℕ) → Asks → Tracker → (resting : Bool) → Rows → Turned
 lineTurn n t l hand (news a b c) u resting r = refuses 12 u hand r

@@ -8,13 +8,17 @@ use native.Mathlib.Omega.{arith}
 use lib.ListN.{length, getD, replicate, length-replicate}
 use Rattle.laws.proofs.Writes.{getD-replicate}
 use Rattle.laws.proofs.Choice.{not-both-ways}
+use Rattle.laws.specs.Refusal.{refusal, unless}
+use Rattle.laws.proofs.Refusal.{refusal-hold, refused-or-not, unless-0, unless-no, unless-by}
+use Rattle.memory.specs.True.{isTrue, clearedMap}
+use Rattle.tracker.specs.Answer.{ok, no}
 use Rattle.geometry.specs.TagMemory.{blocks}
 use Rattle.tracker.specs.declared.Tracker.{Tracker}
 use Rattle.tracker.specs.Tracker.{idle, isIdle, holdsAt}
 use Rattle.line.specs.Word.{used, holder}
 use Rattle.rules.specs.State.{State, trackerAt, begun, zeroState, lengthsRight}
 use Rattle.rules.specs.Whole.{limits, phaseWhole, whole}
-use Rattle.rules.specs.Calls.{fresh, opened, accepted, refused}
+use Rattle.rules.specs.Calls.{Out, accepted, refused, freshTests, fresh, openTests, opened}
 use Rattle.line.proofs.Words.{free-used}
 use Rattle.rules.proofs.Lined.{at, Has, Lined}
 use Rattle.rules.proofs.Whole.{heldOf, heldOf-no, Tracked, Whole, facts-whole, t-most, t-least, l-least, l-most}
@@ -56,3 +60,53 @@ module _ (n t l : ℕ) (lim : limits n t l ≡ true) where
 pub zero-broken : whole zeroState ≡ false
 unfolding whole Rattle.rules.specs.Whole.limits Rattle.geometry.specs.TagMemory.inLimits Rattle.laws.specs.Choice.both
 zero-broken = refl
+
+-- a call that said ok was not refused
+ok-not-no : {c : ℕ} → no c ≡ ok → ⊥
+ok-not-no e = let z : _≡_ {A = ℕ} 0 1 = cc in omega arith
+
+pub passed : (c : ℕ) (o : Out) (s : State) (bytes memory : List ℕ) → unless c o (λ r. refused r s bytes memory) .said ≡ ok → c ≡ 0
+passed c o s bytes memory e = ⊎-elim (λ z. z) (λ h. absurd (ok-not-no (sym (ap (λ (u : Out). u .said) (unless-no o (λ r. refused r s bytes memory) h)) ∙ e))) (refused-or-not c)
+
+-- fresh and open: not refused, refused
+module _ (n t l : ℕ) (bytes memory : List ℕ) where
+  pub fresh-passed : fresh n t l bytes memory .said ≡ ok → refusal (freshTests n t l bytes memory) ≡ 0
+  unfolding fresh
+  fresh-passed e = passed _ _ _ _ _ e
+
+  pub open-passed : opened n t l bytes memory .said ≡ ok → refusal (openTests n t l bytes memory) ≡ 0
+  unfolding opened
+  open-passed e = passed _ _ _ _ _ e
+
+  module _ (free : refusal (freshTests n t l bytes memory) ≡ 0) where
+    pub fresh-accepted : fresh n t l bytes memory ≡ accepted (begun n t l) bytes (clearedMap n memory)
+    unfolding fresh
+    fresh-accepted = unless-0 _ _ free
+
+    pub fresh-free : (limits n t l ≡ true) × (lengthsRight n l bytes memory ≡ true)
+    fresh-free = let h = refusal-hold (freshTests n t l bytes memory) refl free in (h .0, h .1 .0)
+
+  module _ (free : refusal (openTests n t l bytes memory) ≡ 0) where
+    pub open-accepted : opened n t l bytes memory ≡ accepted (begun n t l) bytes memory
+    unfolding opened
+    open-accepted = unless-0 _ _ free
+
+    pub open-free : (limits n t l ≡ true) × (lengthsRight n l bytes memory ≡ true) × (isTrue n memory ≡ true)
+    open-free = let h = refusal-hold (openTests n t l bytes memory) refl free in (h .0, h .1 .0, h .1 .1 .0)
+
+  pub fresh-refused : 0 < refusal (freshTests n t l bytes memory) → fresh n t l bytes memory ≡ refused (refusal (freshTests n t l bytes memory)) zeroState bytes memory
+  unfolding fresh
+  fresh-refused h = unless-no _ _ h
+
+  pub open-refused : 0 < refusal (openTests n t l bytes memory) → opened n t l bytes memory ≡ refused (refusal (openTests n t l bytes memory)) zeroState bytes memory
+  unfolding opened
+  open-refused h = unless-no _ _ h
+
+  -- refused or not, every tracker is idle
+  pub fresh-trackers : fresh n t l bytes memory .state .trackers ≡ replicate 8 idle
+  unfolding fresh
+  fresh-trackers = unless-by {c = refusal (freshTests n t l bytes memory)} _ (λ c. refused c zeroState bytes memory) (λ (o : Out). o .state .trackers ≡ replicate 8 idle) (λ _. refl) (λ _. refl)
+
+  pub open-trackers : opened n t l bytes memory .state .trackers ≡ replicate 8 idle
+  unfolding opened
+  open-trackers = unless-by {c = refusal (openTests n t l bytes memory)} _ (λ c. refused c zeroState bytes memory) (λ (o : Out). o .state .trackers ≡ replicate 8 idle) (λ _. refl) (λ _. refl)

@@ -1,6 +1,6 @@
 -- Each call on a whole state with the right lengths gives a whole state with the right lengths, refused or not; a busy tracker's step is never refused.
 use mathlib.Core.Path.{_≡_, refl, sym, ap, _∙_, subst}
-use mathlib.Core.Bool.{Bool, true, false}
+use mathlib.Core.Bool.{Bool, true, false, not}
 use mathlib.Core.List.{List}
 use mathlib.Core.Logic.{_⊎_, inl, inr, ⊎-elim}
 use Prim.Native.Nat.{ℕ, zero, suc, _+_, _-_, _*_, _<_, _≤_}
@@ -8,25 +8,29 @@ use native.Mathlib.Omega.{arith}
 use lib.Dec.{eqb, ltb, leb}
 use lib.ListN.{length, getD, set, length-set, replicate, length-replicate}
 use lib.Seq.{getD-set-same, getD-set-other}
-use borrow.Author.Tests.{lt-ltb, le-ltb, ltb-true, ltb-false, le-leb, leb-true, eqb-true, eqb-false, eq-eqb, ne-eqb}
+use borrow.Author.Tests.{lt-ltb, le-ltb, ltb-true, ltb-false, le-leb, leb-true, eqb-true, eqb-false, eq-eqb, ne-eqb, not-true}
 use native.Mathlib.Decide.{ℕ-discrete}
+use Rattle.tracker.proofs.Phases.{idle-loose}
+use Rattle.geometry.specs.TagMemory.{groups}
 use Rattle.laws.specs.Choice.{pick, both}
 use Rattle.laws.specs.Scan.{all}
 use Rattle.laws.proofs.Choice.{not-both-ways, true-or-false, both-left, both-right, both-true}
 use Rattle.laws.proofs.Splice.{lt-or-ge}
 use Rattle.laws.proofs.Scan.{all-at}
+use Rattle.laws.specs.Refusal.{Tests, refusal, unless}
+use Rattle.laws.proofs.Refusal.{refusal-0, refusal-hold, refusal-past, refused-or-not, unless-0, unless-no}
 use Rattle.geometry.specs.TagMemory.{inLimits, memoryLength, blocks}
 use Rattle.tracker.specs.declared.Phase.{Phase}
 use Rattle.tracker.specs.declared.Phase.the-variants.{Idle, Probe, Map, Leaf, Set, Clear}
 use Rattle.tracker.specs.declared.Tracker.{Tracker}
 use Rattle.tracker.specs.Tracker.{idle, isIdle, isIdleAt, holdsAt, issued, firstPhase}
-use Rattle.tracker.specs.Answer.{Said, ok, no as refusal}
+use Rattle.tracker.specs.Answer.{Said, ok}
 use Rattle.line.specs.Word.{used, blockOf, holder, cleaned}
 use Rattle.rules.specs.State.{State, Rows, trackerAt, lengthsRight, begun}
 use Rattle.rules.specs.Whole.{limits, mapBlock, phaseWhole, whole}
 use Rattle.rules.specs.Place.{rowsFit, drained, writtenBack}
 use Rattle.rules.specs.Step.{Turned, fit, byPhase, turnOf}
-use Rattle.rules.specs.Calls.{Out, refused, accepted, fresh, opened, withTracker, withLines, issueNo, issue, stepped, stepNo, step, allIdle, drainNo, drain}
+use Rattle.rules.specs.Calls.{Out, refused, accepted, fresh, opened, withTracker, withLines, stateTests, issueTests, issueNo, issue, stepped, stepTests, stepNo, step, allIdle, drainTests, drainNo, drain}
 use Rattle.line.proofs.Words.{blockOf-cleaned, holder-cleaned, used-cleaned}
 use Rattle.rules.proofs.Lined.{at, Has, Held, Lined, low, loose-lined, same-holds}
 use Rattle.rules.proofs.Whole.{heldOf, heldOf-yes, heldOf-no, heldOf-is, Tracked, Whole, whole-facts, facts-whole, inLimits-of, t-most, l-least, l-most}
@@ -70,6 +74,19 @@ module _ (s : State) (bytes memory : List ℕ) (w : whole s ≡ true) (len : len
   unfolding rowsFit
   rows-fit = both-true _ _ (le-leb _ _ (f .lined .long)) (eq-eqb _ _ (bytes-right (s .n) (s .l) bytes memory len))
 
+  -- past 4 and 2 a call's refusal is that of its own tests
+  issueNo-is : (x g : ℕ) → issueNo s bytes memory x g ≡ refusal (issueTests (s .n) (s .t) x g (trackerAt (s .trackers) x))
+  unfolding issueNo
+  issueNo-is x g = refusal-past (stateTests s bytes memory) _ (w, (len, tt))
+
+  stepNo-is : (x : ℕ) → stepNo s bytes memory x ≡ refusal (stepTests (s .t) x (trackerAt (s .trackers) x))
+  unfolding stepNo
+  stepNo-is x = refusal-past (stateTests s bytes memory) _ (w, (len, tt))
+
+  drainNo-is : drainNo s bytes memory ≡ refusal (drainTests (allIdle s))
+  unfolding drainNo
+  drainNo-is = refusal-past (stateTests s bytes memory) _ (w, (len, tt))
+
   module _ (x : ℕ) (xl : x < s .t) where
     module _ (busy : isIdle (trackerAt (s .trackers) x) ≡ false) where
       pub turn-fit : fit (s .n) (s .l) x (trackerAt (s .trackers) x) rows ≡ true
@@ -87,14 +104,10 @@ module _ (s : State) (bytes memory : List ℕ) (w : whole s ≡ true) (len : len
       turn-keeps = rw turn-byPhase (keeps-byPhase (s .n) (s .t) (s .l) (s .hand) x (s .trackers) rows (f .limits-ok) (f .lined) (f .tracked) xl (f .hand-lt) rows-fit
           (trackerAt (s .trackers) x) refl busy (trackerAt (s .trackers) x .phase) refl)
 
-      stepNo-0 : stepNo s bytes memory x ≡ 0
-      unfolding stepNo
-      stepNo-0 = rw (w, len, lt-ltb _ _ xl, busy)
-
       -- "the public step is the core"
       pub step-is : step s bytes memory x ≡ stepped s x (turnOf (s .n) (s .l) (s .hand) x (trackerAt (s .trackers) x) rows)
       unfolding step
-      step-is = rw stepNo-0
+      step-is = unless-0 _ _ (stepNo-is x ∙ refusal-0 (stepTests (s .t) x (trackerAt (s .trackers) x)) (lt-ltb _ _ xl, (ap not busy, tt)))
 
       pub step-sound : Sound (s .n) (s .t) (s .l) (step s bytes memory x)
       step-sound = rw step-is (record {
@@ -108,92 +121,70 @@ module _ (s : State) (bytes memory : List ℕ) (w : whole s ≡ true) (len : len
       pub step-not-refused : isNo (step s bytes memory x .said) ≡ false
       step-not-refused = rw step-is (turn-keeps .says)
 
-    pub step-idle : isIdle (trackerAt (s .trackers) x) ≡ true → step s bytes memory x ≡ refused 8 s bytes memory
-    unfolding step stepNo
-    step-idle e = rw (w, len, lt-ltb _ _ xl, e)
+  pub step-refused : (x : ℕ) → 0 < refusal (stepTests (s .t) x (trackerAt (s .trackers) x)) → step s bytes memory x ≡ refused (refusal (stepTests (s .t) x (trackerAt (s .trackers) x))) s bytes memory
+  unfolding step
+  step-refused x h = rw (stepNo-is x) (unless-no _ _ h)
 
-  pub step-past : (x : ℕ) → s .t ≤ x → step s bytes memory x ≡ refused 5 s bytes memory
-  unfolding step stepNo
-  step-past x q = rw (w, len, le-ltb _ _ q)
+  -- where a step is not refused
+  pub step-free : (x : ℕ) → refusal (stepTests (s .t) x (trackerAt (s .trackers) x)) ≡ 0 → (x < s .t) × (isIdle (trackerAt (s .trackers) x) ≡ false)
+  step-free x e = let h = refusal-hold (stepTests (s .t) x (trackerAt (s .trackers) x)) refl e in (ltb-true _ _ (h .0), not-true _ (h .1 .0))
 
   pub step-kept : (x : ℕ) → Sound (s .n) (s .t) (s .l) (step s bytes memory x)
-  step-kept x = go (lt-or-ge x (s .t))
-    where
-      go : (x < s .t) ⊎ (s .t ≤ x) → Sound (s .n) (s .t) (s .l) (step s bytes memory x)
-      go (inl q) = ⊎-elim (λ e. rw (step-idle x q e) (refused-sound 8)) (λ e. step-sound x q e) (true-or-false (isIdle (trackerAt (s .trackers) x)))
-      go (inr q) = rw (step-past x q) (refused-sound 5)
+  step-kept x = ⊎-elim (λ e. let h = step-free x e in step-sound x (h .0) (h .1)) (λ h. rw (step-refused x h) (refused-sound _))
+      (refused-or-not (refusal (stepTests (s .t) x (trackerAt (s .trackers) x))))
 
-  -- issue: a law for each way out
+  -- issue
   module _ (x : ℕ) (write bottom : Bool) (g v : ℕ) where
-    pub issue-past : s .t ≤ x → issue s bytes memory x write bottom g v ≡ refused 5 s bytes memory
-    unfolding issue issueNo
-    issue-past q = rw (w, len, le-ltb _ _ q)
+    pub issue-refused : 0 < refusal (issueTests (s .n) (s .t) x g (trackerAt (s .trackers) x))
+        → issue s bytes memory x write bottom g v ≡ refused (refusal (issueTests (s .n) (s .t) x g (trackerAt (s .trackers) x))) s bytes memory
+    unfolding issue
+    issue-refused h = rw (issueNo-is x g) (unless-no _ _ h)
 
-    module _ (xl : x < s .t) where
-      pub issue-group : 16 * s .n ≤ g → issue s bytes memory x write bottom g v ≡ refused 6 s bytes memory
-      unfolding issue issueNo
-      issue-group q = rw (w, len, lt-ltb _ _ xl, le-ltb _ _ q)
+    module _ (free : refusal (issueTests (s .n) (s .t) x g (trackerAt (s .trackers) x)) ≡ 0) where
+      pub issue-accepted : issue s bytes memory x write bottom g v ≡ accepted (withTracker s x (issued write bottom g v)) bytes memory
+      unfolding issue
+      issue-accepted = unless-0 _ _ (issueNo-is x g ∙ free)
 
-      module _ (gl : g < 16 * s .n) where
-        pub issue-busy : isIdle (trackerAt (s .trackers) x) ≡ false → issue s bytes memory x write bottom g v ≡ refused 7 s bytes memory
-        unfolding issue issueNo
-        issue-busy e = rw (w, len, lt-ltb _ _ xl, lt-ltb _ _ gl, e)
+      -- where an issue is not refused
+      pub issue-free : (x < s .t) × (g < groups (s .n)) × (isIdle (trackerAt (s .trackers) x) ≡ true)
+      issue-free = let h = refusal-hold (issueTests (s .n) (s .t) x g (trackerAt (s .trackers) x)) refl free in (ltb-true _ _ (h .0), ltb-true _ _ (h .1 .0), h .1 .1 .0)
 
-        pub issue-accepted : isIdle (trackerAt (s .trackers) x) ≡ true
-            → issue s bytes memory x write bottom g v ≡ accepted (withTracker s x (issued write bottom g v)) bytes memory
-        unfolding issue issueNo
-        issue-accepted e = rw (w, len, lt-ltb _ _ xl, lt-ltb _ _ gl, e)
+      first-free : (b : Bool) → holdsAt (firstPhase b) ≡ false
+      first-free true = refl
+      first-free false = refl
 
-        first-free : (b : Bool) → holdsAt (firstPhase b) ≡ false
-        first-free true = refl
-        first-free false = refl
+      first-ok : (b : Bool) → phaseWhole write b (firstPhase b) ≡ true
+      first-ok true = refl
+      first-ok false = refl
 
-        first-ok : (b : Bool) → phaseWhole write b (firstPhase b) ≡ true
-        first-ok true = refl
-        first-ok false = refl
+      xlong : x < length (s .trackers)
+      xlong = omega (arith, f .tracked .long, issue-free .0)
 
-        idle-free : (p : Phase) → isIdleAt p ≡ true → holdsAt p ≡ false
-        idle-free Idle e = refl
-        idle-free Probe e = refl
-        idle-free Map e = refl
-        idle-free Leaf e = absurd (not-both-ways e refl)
-        idle-free Set e = absurd (not-both-ways e refl)
-        idle-free Clear e = absurd (not-both-ways e refl)
+      issue-lined : Lined (blocks (s .n)) (s .l) (s .t) (heldOf (s .n) (set (s .trackers) x (issued write bottom g v))) (s .lines)
+      issue-lined = same-holds (f .lined) (λ y. by y (ℕ-discrete y x))
+        where
+          by : (y : ℕ) → Dec (y ≡ x) → heldOf (s .n) (set (s .trackers) x (issued write bottom g v)) y ≡ heldOf (s .n) (s .trackers) y
+          by y (yes q) = rw q (heldOf-no (s .n) _ x (rw (tracker-same (s .trackers) x (issued write bottom g v) xlong) (first-free bottom))
+              ∙ sym (heldOf-no (s .n) (s .trackers) x (idle-loose (trackerAt (s .trackers) x .phase) (issue-free .2))))
+          by y (no q) = heldOf-other (s .n) (s .trackers) x y (issued write bottom g v) q
 
-        xlong : x < length (s .trackers)
-        xlong = omega (arith, f .tracked .long)
-
-        issue-lined : isIdle (trackerAt (s .trackers) x) ≡ true → Lined (blocks (s .n)) (s .l) (s .t) (heldOf (s .n) (set (s .trackers) x (issued write bottom g v))) (s .lines)
-        issue-lined e = same-holds (f .lined) (λ y. by y (ℕ-discrete y x))
-          where
-            by : (y : ℕ) → Dec (y ≡ x) → heldOf (s .n) (set (s .trackers) x (issued write bottom g v)) y ≡ heldOf (s .n) (s .trackers) y
-            by y (yes q) = rw q (heldOf-no (s .n) _ x (rw (tracker-same (s .trackers) x (issued write bottom g v) xlong) (first-free bottom))
-                ∙ sym (heldOf-no (s .n) (s .trackers) x (idle-free (trackerAt (s .trackers) x .phase) e)))
-            by y (no q) = heldOf-other (s .n) (s .trackers) x y (issued write bottom g v) q
-
-        issue-sound : isIdle (trackerAt (s .trackers) x) ≡ true → Sound (s .n) (s .t) (s .l) (accepted (withTracker s x (issued write bottom g v)) bytes memory)
-        issue-sound e = record {
-          n-is = refl;
-          t-is = refl;
-          l-is = refl;
-          is-whole = facts-whole _ (record {
-            limits-ok = f .limits-ok;
-            hand-lt = f .hand-lt;
-            lined = issue-lined e;
-            tracked = tracked-set (s .n) (s .t) (s .trackers) x (issued write bottom g v) (f .tracked) xl (λ _. gl) (first-ok bottom);
-          });
-          right = len;
-        }
+      issue-sound : Sound (s .n) (s .t) (s .l) (accepted (withTracker s x (issued write bottom g v)) bytes memory)
+      issue-sound = record {
+        n-is = refl;
+        t-is = refl;
+        l-is = refl;
+        is-whole = facts-whole _ (record {
+          limits-ok = f .limits-ok;
+          hand-lt = f .hand-lt;
+          lined = issue-lined;
+          tracked = tracked-set (s .n) (s .t) (s .trackers) x (issued write bottom g v) (f .tracked) (issue-free .0) (λ _. issue-free .1) (first-ok bottom);
+        });
+        right = len;
+      }
 
     pub issue-kept : Sound (s .n) (s .t) (s .l) (issue s bytes memory x write bottom g v)
-    issue-kept = go (lt-or-ge x (s .t)) (lt-or-ge g (16 * s .n)) (true-or-false (isIdle (trackerAt (s .trackers) x)))
-      where
-        go : (x < s .t) ⊎ (s .t ≤ x) → (g < 16 * s .n) ⊎ (16 * s .n ≤ g) → (isIdle (trackerAt (s .trackers) x) ≡ true) ⊎ (isIdle (trackerAt (s .trackers) x) ≡ false)
-            → Sound (s .n) (s .t) (s .l) (issue s bytes memory x write bottom g v)
-        go (inr q) a b = rw (issue-past q) (refused-sound 5)
-        go (inl q) (inr a) b = rw (issue-group q a) (refused-sound 6)
-        go (inl q) (inl a) (inr b) = rw (issue-busy q a b) (refused-sound 7)
-        go (inl q) (inl a) (inl b) = rw (issue-accepted q a b) (issue-sound q a b)
+    issue-kept = ⊎-elim (λ e. rw (issue-accepted e) (issue-sound e)) (λ h. rw (issue-refused h) (refused-sound _))
+        (refused-or-not (refusal (issueTests (s .n) (s .t) x g (trackerAt (s .trackers) x))))
 
   few : s .t < s .l
   few = omega (arith, l-least (s .n) (s .t) (s .l) (f .limits-ok))
@@ -206,16 +197,8 @@ module _ (s : State) (bytes memory : List ℕ) (w : whole s ≡ true) (len : len
   module _ (idle-all : allIdle s ≡ true) where
     none-held : (x : ℕ) → heldOf (s .n) (s .trackers) x ≡ 0
     unfolding allIdle
-    none-held x = heldOf-no (s .n) (s .trackers) x (rests (trackerAt (s .trackers) x .phase)
+    none-held x = heldOf-no (s .n) (s .trackers) x (idle-loose (trackerAt (s .trackers) x .phase)
         (⊎-elim (λ q. all-at (λ y. isIdle (trackerAt (s .trackers) y)) (s .t) idle-all x q) (λ q. f .tracked .above x q) (lt-or-ge x (s .t))))
-      where
-        rests : (p : Phase) → isIdleAt p ≡ true → holdsAt p ≡ false
-        rests Idle e = refl
-        rests Probe e = refl
-        rests Map e = refl
-        rests Leaf e = absurd (not-both-ways e refl)
-        rests Set e = absurd (not-both-ways e refl)
-        rests Clear e = absurd (not-both-ways e refl)
 
     -- nobody holds a line
     no-holder : {lines : List ℕ} → Lined (blocks (s .n)) (s .l) (s .t) (heldOf (s .n) (s .trackers)) lines → (i : ℕ) → holder (at lines i) ≡ 0
@@ -249,13 +232,9 @@ module _ (s : State) (bytes memory : List ℕ) (w : whole s ≡ true) (len : len
           memory-long = written-length (drained i rows) 0 (d .lined) few fits i (omega arith) ∙ d .memory-long;
         }
 
-    drainNo-0 : drainNo s bytes memory ≡ 0
-    unfolding drainNo
-    drainNo-0 = rw (w, len, idle-all)
-
     pub drain-is : drain s bytes memory ≡ accepted (withLines s (drained (s .l) rows .lines)) bytes (drained (s .l) rows .memory)
     unfolding drain
-    drain-is = rw drainNo-0
+    drain-is = unless-0 _ _ (drainNo-is ∙ refusal-0 (drainTests (allIdle s)) (idle-all, tt))
 
     pub drain-sound : Sound (s .n) (s .t) (s .l) (drain s bytes memory)
     drain-sound =
@@ -269,8 +248,8 @@ module _ (s : State) (bytes memory : List ℕ) (w : whole s ≡ true) (len : len
         })
 
   pub drain-busy : allIdle s ≡ false → drain s bytes memory ≡ refused 7 s bytes memory
-  unfolding drain drainNo
-  drain-busy e = rw (w, len, e)
+  unfolding drain refusal unless
+  drain-busy e = rw (drainNo-is, e)
 
   pub drain-kept : Sound (s .n) (s .t) (s .l) (drain s bytes memory)
   drain-kept = ⊎-elim (λ e. drain-sound e) (λ e. rw (drain-busy e) (refused-sound 7)) (true-or-false (allIdle s))

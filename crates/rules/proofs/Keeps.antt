@@ -10,6 +10,8 @@ use lib.Dec.{eqb, ltb, leb}
 use lib.ListN.{length, getD, set, length-set, replicate, length-replicate}
 use lib.Seq.{getD-set-same, getD-set-other}
 use borrow.Author.Tests.{lt-ltb, le-ltb, ltb-true, le-leb, leb-true, eqb-true, eq-eqb}
+use Rattle.geometry.proofs.Places.{leafOf-lt, mapBlockOf-lt, mapBlocks-most}
+use Rattle.geometry.specs.TagMemory.{groups}
 use Rattle.laws.specs.Choice.{pick, both}
 use Rattle.laws.specs.Bytes.{bytes}
 use Rattle.laws.specs.Bits.{withBit}
@@ -33,7 +35,7 @@ use Rattle.rules.specs.Step.{Turned, ends, goes, waits, bitIn, groupIn, 
 use Rattle.line.proofs.Words.{blockOf-word, free-used, holder-word, used-word}
 use Rattle.rules.proofs.Words.{blockOf-heldBy, holder-free, holder-heldBy, loose-holder, used-heldBy}
 use Rattle.rules.proofs.Lined.{at, Has, Held, Lined, low, lineOf-is, lineOf-has, lineOf-none, loose-lined, held-lined, let-go-lined, same-holds, has-other, at-other, has-here, holder-here}
-use Rattle.rules.proofs.Whole.{heldOf, heldOf-yes, heldOf-no, heldOf-is, Tracked, Whole, whole-facts, facts-whole, inLimits-of, n-least, n-most, t-most, l-least, l-most, holds-busy}
+use Rattle.rules.proofs.Whole.{heldOf, heldOf-yes, heldOf-no, heldOf-is, Tracked, Whole, whole-facts, facts-whole, inLimits-of, n-least, n-most, t-most, l-least, l-most}
 use Rattle.rules.proofs.Placed.{Brings, brings, place-loose, place-hand, place-memory-length, fill-lined, fill-has, fill-loose, fill-keeps}
 use Rattle.rules.proofs.Ways.{probe-miss, probe-read, probe-same, probe-other, map-read, map-same, map-create, map-hold, map-wait, map-on, leafRead-is, write1-same, write1-put, write0-same, write0-line, write0-place, leafWrite-0, leafWrite-1, bytesWith, putIn-empty, putIn-done, inLine-is, turn-is}
 
@@ -70,7 +72,7 @@ heldOf-at n ts ts' x y e = rw e
 pub heldOf-other : (n : ℕ) (ts : List Tracker) (x y : ℕ) (t : Tracker) → (y ≡ x → ⊥) → heldOf n (set ts x t) y ≡ heldOf n ts y
 heldOf-other n ts x y t q = heldOf-at n (set ts x t) ts y y (tracker-other ts x y t q)
 
-pub tracked-set : (n t : ℕ) (ts : List Tracker) (x : ℕ) (u : Tracker) → Tracked n t ts → x < t → (isIdle u ≡ false → u .group < 16 * n)
+pub tracked-set : (n t : ℕ) (ts : List Tracker) (x : ℕ) (u : Tracker) → Tracked n t ts → x < t → (isIdle u ≡ false → u .group < groups n)
     → phaseWhole (u .write) (u .bottom) (u .phase) ≡ true → Tracked n t (set ts x u)
 tracked-set n t ts x u k xl g p = record {
   long = rw (length-set ts x u) (k .long);
@@ -82,7 +84,7 @@ tracked-set n t ts x u k xl g p = record {
     here : (y : ℕ) → y ≡ x → trackerAt (set ts x u) y ≡ u
     here y q = rw q (tracker-same ts x u (omega (arith, k .long)))
 
-    group : (y : ℕ) → isIdle (trackerAt (set ts x u) y) ≡ false → Dec (y ≡ x) → trackerAt (set ts x u) y .group < 16 * n
+    group : (y : ℕ) → isIdle (trackerAt (set ts x u) y) ≡ false → Dec (y ≡ x) → trackerAt (set ts x u) y .group < groups n
     group y e (yes q) = rw (here y q) (g (ap isIdle (sym (here y q)) ∙ e))
     group y e (no q) = rw (tracker-other ts x y u q) (k .group-lt y (ap isIdle (sym (tracker-other ts x y u q)) ∙ e))
 
@@ -100,16 +102,16 @@ putBit-length m a k v = go (ltb k 8)
 
 module _ (n t l : ℕ) (lim : limits n t l ≡ true) where
   pub blocks-small : blocks n < 16777215
-  blocks-small = omega (arith, n-most n t l lim)
+  blocks-small = omega (arith, n-most n t l lim, mapBlocks-most n)
 
-  pub leaf-lt : (g : ℕ) → g < 16 * n → leafOf g < n
-  leaf-lt g q = omega arith
+  pub leaf-lt : (g : ℕ) → g < groups n → leafOf g < n
+  leaf-lt g q = leafOf-lt n g q
 
-  pub leaf-block : (g : ℕ) → g < 16 * n → leafOf g < blocks n
-  leaf-block g q = omega arith
+  pub leaf-block : (g : ℕ) → g < groups n → leafOf g < blocks n
+  leaf-block g q = omega (arith, leafOf-lt n g q)
 
-  pub map-block : (g : ℕ) → g < 16 * n → mapBlock n g < blocks n
-  map-block g q = omega arith
+  pub map-block : (g : ℕ) → g < groups n → mapBlock n g < blocks n
+  map-block g q = omega (arith, mapBlockOf-lt n (leafOf g) (leafOf-lt n g q))
 
 -- a line that has a leaf is held by nobody: map blocks come after the leaves
 pub leaf-loose : {B l t : ℕ} (n : ℕ) (ts : List Tracker) {lines : List ℕ} → Lined B l t (heldOf n ts) lines → (i b : ℕ) → Has lines i b → b < n → holder (at lines i) ≡ 0
@@ -124,7 +126,7 @@ module _ (n t l hand x : ℕ) (ts : List Tracker) (r : Rows) (lim : limits n t l
   xlong : x < length ts
   xlong = omega (arith, k .long)
 
-  group-ok : u .group < 16 * n
+  group-ok : u .group < groups n
   group-ok = rw (← is) (k .group-lt x (rw is busy))
 
   phase-was : phaseWhole (u .write) (u .bottom) (u .phase) ≡ true

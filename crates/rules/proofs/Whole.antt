@@ -10,6 +10,8 @@ use native.Mathlib.Decide.{ℕ-discrete}
 use lib.Dec.{eqb, ltb, leb}
 use lib.ListN.{length, getD, set, List·getD-eq-default}
 use borrow.Author.Tests.{lt-ltb, le-ltb, ltb-true, ltb-false, leb-true, leb-false, le-leb, lt-leb, eqb-true, eq-eqb, ne-eqb, eqb-false}
+use Rattle.tracker.proofs.Phases.{when, idle-loose, holds-busy}
+use Rattle.geometry.specs.TagMemory.{groups}
 use Rattle.laws.specs.Choice.{pick, both, implies, no}
 use Rattle.laws.specs.Scan.{all, first}
 use Rattle.laws.proofs.Choice.{not-both-ways, true-or-false, both-left, both-right, both-true, implies-true, implied, no-true, no-false}
@@ -36,7 +38,7 @@ heldOf n ts x = pick (holdsAt (trackerAt ts x .phase)) (suc (mapBlock n (tracker
 pub record Tracked (n t : ℕ) (ts : List Tracker) : Type 0 where
   pub long : t ≤ length ts
   pub above : (x : ℕ) → t ≤ x → isIdle (trackerAt ts x) ≡ true
-  pub group-lt : (x : ℕ) → isIdle (trackerAt ts x) ≡ false → trackerAt ts x .group < 16 * n
+  pub group-lt : (x : ℕ) → isIdle (trackerAt ts x) ≡ false → trackerAt ts x .group < groups n
   pub phase-ok : (x : ℕ) → phaseWhole (trackerAt ts x .write) (trackerAt ts x .bottom) (trackerAt ts x .phase) ≡ true
 
 pub record Whole (s : State) : Type 0 where
@@ -74,29 +76,8 @@ module _ (n t l : ℕ) (h : limits n t l ≡ true) where
   unfolding limits
   l-most = leb-true _ _ (both-right _ _ (both-right _ _ (both-right _ _ h)))
 
-idle-holds : (p : Phase) → isIdleAt p ≡ true → holdsAt p ≡ false
-idle-holds Idle e = refl
-idle-holds Probe e = absurd (not-both-ways e refl)
-idle-holds Map e = refl
-idle-holds Leaf e = absurd (not-both-ways e refl)
-idle-holds Set e = absurd (not-both-ways e refl)
-idle-holds Clear e = absurd (not-both-ways e refl)
-
-pub holds-busy : (p : Phase) → holdsAt p ≡ true → isIdleAt p ≡ false
-holds-busy Idle e = absurd (not-both-ways e refl)
-holds-busy Probe e = refl
-holds-busy Map e = refl
-holds-busy Leaf e = refl
-holds-busy Set e = refl
-holds-busy Clear e = refl
-
 idle-ok : (w b : Bool) (p : Phase) → isIdleAt p ≡ true → phaseWhole w b p ≡ true
-idle-ok w b Idle e = refl
-idle-ok w b Probe e = absurd (not-both-ways e refl)
-idle-ok w b Map e = refl
-idle-ok w b Leaf e = refl
-idle-ok w b Set e = absurd (not-both-ways e refl)
-idle-ok w b Clear e = absurd (not-both-ways e refl)
+idle-ok w b = when isIdleAt (phaseWhole w b) refl
 
 pub heldOf-yes : (n : ℕ) (ts : List Tracker) (x : ℕ) → holdsAt (trackerAt ts x .phase) ≡ true → heldOf n ts x ≡ suc (mapBlock n (trackerAt ts x .group))
 unfolding heldOf
@@ -171,7 +152,7 @@ module _ (s : State) (w : whole s ≡ true) where
   mine x = lineOf (s .lines) (s .l) (mapBlock (s .n) (trackerAt (s .trackers) x .group))
 
   tracker-facts : (x : ℕ) → x < s .t
-      → both (both (implies (no (isIdle (trackerAt (s .trackers) x))) (ltb (trackerAt (s .trackers) x .group) (16 * s .n)))
+      → both (both (implies (no (isIdle (trackerAt (s .trackers) x))) (ltb (trackerAt (s .trackers) x .group) (groups (s .n))))
       (phaseWhole (trackerAt (s .trackers) x .write) (trackerAt (s .trackers) x .bottom) (trackerAt (s .trackers) x .phase)))
       (implies (holdsAt (trackerAt (s .trackers) x .phase)) (both (ltb (mine x) (s .l)) (eqb (holder (at (s .lines) (mine x))) (x + 1)))) ≡ true
   unfolding trackerWhole mine
@@ -207,7 +188,7 @@ module _ (s : State) (w : whole s ≡ true) where
       no-is : {b : Bool} → b ≡ false → no b ≡ true
       no-is {b} e = rw e
 
-      group : (x : ℕ) → isIdle (trackerAt (s .trackers) x) ≡ false → (x < s .t) ⊎ (s .t ≤ x) → trackerAt (s .trackers) x .group < 16 * s .n
+      group : (x : ℕ) → isIdle (trackerAt (s .trackers) x) ≡ false → (x < s .t) ⊎ (s .t ≤ x) → trackerAt (s .trackers) x .group < groups (s .n)
       group x e (inl q) = ltb-true _ _ (implies-true _ _ (both-left _ _ (both-left _ _ (tracker-facts x q))) (no-is e))
       group x e (inr q) = absurd (not-both-ways (idle-above x q) e)
 

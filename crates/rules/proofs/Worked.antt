@@ -4,6 +4,8 @@ use mathlib.Core.Bool.{Bool, true, false}
 use mathlib.Core.List.{List, [], _∷_, _++_}
 use Prim.Native.Nat.{ℕ}
 use lib.ListN.{replicate}
+use Rattle.geometry.specs.TagMemory.{leafOf, byteOf, groups, mapBlockOf, mapByteOf, mapBitOf, mapBlocks}
+use Rattle.laws.specs.Refusal.{refusal, unless}
 use Rattle.laws.specs.Choice.{both, implies, no}
 use Rattle.laws.specs.Bytes.{part, splice, fits, putW, value, bytes, numberAt}
 use Rattle.laws.specs.Scan.{first, all}
@@ -12,7 +14,7 @@ use Rattle.geometry.specs.TagMemory.{inLimits}
 use Rattle.block.specs.Block.{bitAt, putBit, allZero, blockOr0}
 use Rattle.memory.specs.PlainReading.{leafBit, plainGroup}
 use Rattle.memory.specs.True.{trueAt, isTrue, clearedMap}
-use Rattle.tracker.specs.Answer.{Said, ok, wait, moved, read, done, same, no as refusal}
+use Rattle.tracker.specs.Answer.{Said, ok, wait, moved, read, done, same, no as says-no}
 use Rattle.line.specs.Word.{used, blockOf, changed, holder, held, has, word, heldBy, cleaned}
 use Rattle.line.specs.Find.{lineOf, lowestFree, looseFrom, victim, after}
 use Rattle.rules.specs.State.{lengthsRight}
@@ -72,10 +74,10 @@ pub record Worked : Type 0 where
   -- refusals: 2, 5, 6, 7, 8
   pub refusals : answers two-leaves
       (lends [] [] (steps 0) ∷ steps 2 ∷ issues 0 false false 32 0 ∷ issues 0 false false 31 0 ∷ issues 0 false false 31 0 ∷ drains ∷ steps 1 ∷ [])
-      ≡ refusal 2 ∷ refusal 5 ∷ refusal 6 ∷ ok ∷ refusal 7 ∷ refusal 7 ∷ refusal 8 ∷ []
+      ≡ says-no 2 ∷ says-no 5 ∷ says-no 6 ∷ ok ∷ says-no 7 ∷ says-no 7 ∷ says-no 8 ∷ []
 
 pub worked : Worked
-unfolding both implies no part splice fits putW value bytes numberAt first all bitOf withBit inLimits bitAt putBit allZero blockOr0 leafBit plainGroup trueAt isTrue clearedMap used blockOf changed holder held has word heldBy cleaned lineOf lowestFree looseFrom victim after lengthsRight limits holds lineWhole trackerWhole whole rowsFit placeLine placeHand writtenBack placeMemory bringIn drained probe onMap map leafRead putIn writeUnder1 writeUnder0 leafWrite finish inLine fit turnOf fresh opened issueNo issue stepNo step allIdle drainNo drain showNo shownBit show does answers ended
+unfolding both implies no refusal unless leafOf byteOf groups mapBlockOf mapByteOf mapBitOf mapBlocks part splice fits putW value bytes numberAt first all bitOf withBit inLimits bitAt putBit allZero blockOr0 leafBit plainGroup trueAt isTrue clearedMap used blockOf changed holder held has word heldBy cleaned lineOf lowestFree looseFrom victim after lengthsRight limits holds lineWhole trackerWhole whole rowsFit placeLine placeHand writtenBack placeMemory bringIn drained probe onMap map leafRead putIn writeUnder1 writeUnder0 leafWrite finish inLine fit turnOf fresh opened issueNo issue stepNo step allIdle drainNo drain showNo shownBit show does answers ended
 worked = record {
   case-r = refl;
   neighbour = refl;

@@ -1,10 +1,12 @@
 -- 01 "What is refused": fresh, open, issue, step, drain and show, each with its refusals in order.
-use mathlib.Core.List.{List, []}
-use mathlib.Core.Bool.{Bool, true, false}
+use mathlib.Core.List.{List, [], _∷_, _++_}
+use mathlib.Core.Bool.{Bool, not}
 use Prim.Native.Nat.{ℕ, _+_, _*_}
 use lib.Dec.{eqb, ltb}
 use lib.ListN.{length, getD, set}
-use Rattle.laws.specs.Choice.{pick, both}
+use Rattle.geometry.specs.TagMemory.{groups}
+use Rattle.laws.specs.Choice.{pick}
+use Rattle.laws.specs.Refusal.{Tests, refusal, unless}
 use Rattle.laws.specs.Scan.{all}
 use Rattle.laws.specs.Bytes.{part}
 use Rattle.geometry.specs.TagMemory.{mapBlockOf, mapByteOf, mapBitOf, blockPlace}
@@ -35,38 +37,37 @@ abbrev pub accepted : State → List ℕ → List ℕ → Out
 accepted s bytes memory = record { said = ok; state = s; bytes = bytes; memory = memory }
 
 -- "fresh 1, 2": "A fresh memory sets every map byte to 0 and touches nothing else."
+abbrev pub freshTests : ℕ → ℕ → ℕ → List ℕ → List ℕ → Tests
+freshTests n t l bytes memory = (limits n t l, 1) ∷ (lengthsRight n l bytes memory, 2) ∷ []
+
 unfoldable pub fresh : ℕ → ℕ → ℕ → List ℕ → List ℕ → Out
 fresh n t l bytes memory =
-    pick (limits n t l)
-    (pick (lengthsRight n l bytes memory) (accepted (begun n t l) bytes (clearedMap n memory)) (refused 2 zeroState bytes memory))
-    (refused 1 zeroState bytes memory)
+    unless (refusal (freshTests n t l bytes memory)) (accepted (begun n t l) bytes (clearedMap n memory)) (λ c. refused c zeroState bytes memory)
 
 -- "open 1, 2, 3": "Opening changes no byte."
+abbrev pub openTests : ℕ → ℕ → ℕ → List ℕ → List ℕ → Tests
+openTests n t l bytes memory = freshTests n t l bytes memory ++ (isTrue n memory, 3) ∷ []
+
 unfoldable pub opened : ℕ → ℕ → ℕ → List ℕ → List ℕ → Out
-opened n t l bytes memory =
-    pick (limits n t l)
-    (pick (lengthsRight n l bytes memory)
-    (pick (isTrue n memory) (accepted (begun n t l) bytes memory) (refused 3 zeroState bytes memory))
-    (refused 2 zeroState bytes memory))
-    (refused 1 zeroState bytes memory)
+opened n t l bytes memory = unless (refusal (openTests n t l bytes memory)) (accepted (begun n t l) bytes memory) (λ c. refused c zeroState bytes memory)
+
+-- what each call on a state asks first, 4 and 2
+abbrev pub stateTests : State → List ℕ → List ℕ → Tests
+stateTests s bytes memory = (whole s, 4) ∷ (lengthsRight (s .n) (s .l) bytes memory, 2) ∷ []
 
 abbrev pub withTracker : State → ℕ → Tracker → State
 withTracker s x t = record { n = s .n; t = s .t; l = s .l; hand = s .hand; lines = s .lines; trackers = set (s .trackers) x t }
 
--- "issue 4, 2, 5, 6, 7"
+-- "issue 4, 2, 5, 6, 7": x's tracker is u
+abbrev pub issueTests : (n t x g : ℕ) → Tracker → Tests
+issueTests n t x g u = (ltb x t, 5) ∷ (ltb g (groups n), 6) ∷ (isIdle u, 7) ∷ []
+
 unfoldable pub issueNo : State → List ℕ → List ℕ → ℕ → ℕ → ℕ
-issueNo s bytes memory x g =
-    pick (whole s)
-    (pick (lengthsRight (s .n) (s .l) bytes memory)
-    (pick (ltb x (s .t)) (pick (ltb g (16 * s .n)) (pick (isIdle (trackerAt (s .trackers) x)) 0 7) 6) 5)
-    2)
-    4
+issueNo s bytes memory x g = refusal (stateTests s bytes memory ++ issueTests (s .n) (s .t) x g (trackerAt (s .trackers) x))
 
 unfoldable pub issue : State → List ℕ → List ℕ → ℕ → (write bottom : Bool) → ℕ → ℕ → Out
 issue s bytes memory x write bottom g v =
-    pick (eqb (issueNo s bytes memory x g) 0)
-    (accepted (withTracker s x (issued write bottom g v)) bytes memory)
-    (refused (issueNo s bytes memory x g) s bytes memory)
+    unless (issueNo s bytes memory x g) (accepted (withTracker s x (issued write bottom g v)) bytes memory) (λ c. refused c s bytes memory)
 
 -- the state, the line bytes and the memory after a step of tracker x
 abbrev pub stepped : State → ℕ → Turned → Out
@@ -77,26 +78,29 @@ stepped s x r = record {
   memory = r .rows .memory;
 }
 
--- "step 4, 2, 5, 8"
+-- "step 4, 2, 5, 8": x's tracker is u
+abbrev pub stepTests : (t x : ℕ) → Tracker → Tests
+stepTests t x u = (ltb x t, 5) ∷ (not (isIdle u), 8) ∷ []
+
 unfoldable pub stepNo : State → List ℕ → List ℕ → ℕ → ℕ
-stepNo s bytes memory x =
-    pick (whole s)
-    (pick (lengthsRight (s .n) (s .l) bytes memory) (pick (ltb x (s .t)) (pick (isIdle (trackerAt (s .trackers) x)) 8 0) 5) 2)
-    4
+stepNo s bytes memory x = refusal (stateTests s bytes memory ++ stepTests (s .t) x (trackerAt (s .trackers) x))
 
 unfoldable pub step : State → List ℕ → List ℕ → ℕ → Out
 step s bytes memory x =
-    pick (eqb (stepNo s bytes memory x) 0)
+    unless (stepNo s bytes memory x)
     (stepped s x (turnOf (s .n) (s .l) (s .hand) x (trackerAt (s .trackers) x) (record { lines = s .lines; bytes = bytes; memory = memory })))
-    (refused (stepNo s bytes memory x) s bytes memory)
+    (λ c. refused c s bytes memory)
 
 -- every one of the T trackers is idle
 unfoldable pub allIdle : State → Bool
 allIdle s = all (λ x. isIdle (trackerAt (s .trackers) x)) (s .t)
 
 -- "drain 4, 2, 7"
+abbrev pub drainTests : (rest : Bool) → Tests
+drainTests rest = (rest, 7) ∷ []
+
 unfoldable pub drainNo : State → List ℕ → List ℕ → ℕ
-drainNo s bytes memory = pick (whole s) (pick (lengthsRight (s .n) (s .l) bytes memory) (pick (allIdle s) 0 7) 2) 4
+drainNo s bytes memory = refusal (stateTests s bytes memory ++ drainTests (allIdle s))
 
 abbrev pub withLines : State → List ℕ → State
 withLines s ls = record { n = s .n; t = s .t; l = s .l; hand = s .hand; lines = ls; trackers = s .trackers }
@@ -104,12 +108,14 @@ withLines s ls = record { n = s .n; t = s .t; l = s .l; hand = s .hand; lines = 
 unfoldable pub drain : State → List ℕ → List ℕ → Out
 drain s bytes memory =
     let d = drained (s .l) (record { lines = s .lines; bytes = bytes; memory = memory }) in
-    pick (eqb (drainNo s bytes memory) 0) (accepted (withLines s (d .lines)) bytes (d .memory)) (refused (drainNo s bytes memory) s bytes memory)
+    unless (drainNo s bytes memory) (accepted (withLines s (d .lines)) bytes (d .memory)) (λ c. refused c s bytes memory)
 
 -- "show 4, 2, 6, 7"; the companion call gives this number
+abbrev pub showTests : (n k : ℕ) (rest : Bool) → Tests
+showTests n k rest = (ltb k n, 6) ∷ (rest, 7) ∷ []
+
 unfoldable pub showNo : State → List ℕ → List ℕ → ℕ → ℕ
-showNo s bytes memory k =
-    pick (whole s) (pick (lengthsRight (s .n) (s .l) bytes memory) (pick (ltb k (s .n)) (pick (allIdle s) 0 7) 6) 2) 4
+showNo s bytes memory k = refusal (stateTests s bytes memory ++ showTests (s .n) k (allIdle s))
 
 -- leaf k's bit, "read in the map block's line if it has one"
 unfoldable pub shownBit : State → List ℕ → List ℕ → ℕ → ℕ
@@ -121,6 +127,6 @@ shownBit s bytes memory k =
 unfoldable pub show : State → List ℕ → List ℕ → ℕ → List ℕ
 show s bytes memory k =
     let i = lineOf (s .lines) (s .l) k in
-    pick (eqb (showNo s bytes memory k) 0)
+    unless (showNo s bytes memory k)
     (pick (ltb i (s .l)) (lineBytes bytes i) (pick (eqb (shownBit s bytes memory k) 1) (blockAt memory k) []))
-    []
+    (λ c. [])

@@ -4,6 +4,7 @@ use mathlib.Core.Bool.{Bool, true, false}
 use Prim.Native.Nat.{ℕ, _+_, _*_}
 use lib.Dec.{eqb, ltb, leb}
 use lib.ListN.{length, getD, set, replicate}
+use Rattle.geometry.specs.TagMemory.{groups}
 use Rattle.laws.specs.Choice.{pick, both}
 use Rattle.geometry.specs.TagMemory.{inLimits, leafOf, byteOf, mapByteOf, mapBitOf, memoryLength, blockPlace}
 use Rattle.block.specs.Block.{groupAt, putGroup, bitAt, putBit, allZero}
@@ -171,7 +172,7 @@ byPhase n l hand x t r Clear = inLine n l hand t r Clear
 
 -- what a step can rely on in any state: there are L lines, the tracker's group exists, its number fits a line's word
 unfoldable pub fit : ℕ → ℕ → ℕ → Tracker → Rows → Bool
-fit n l x t r = both (both (inLimits n) (leb l (length (r .lines)))) (both (ltb (t .group) (16 * n)) (ltb x 127))
+fit n l x t r = both (both (inLimits n) (leb l (length (r .lines)))) (both (ltb (t .group) (groups n)) (ltb x 127))
 
 -- one step of tracker x, which is t
 unfoldable pub turnOf : ℕ → ℕ → ℕ → ℕ → Tracker → Rows → Turned

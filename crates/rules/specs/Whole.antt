@@ -4,6 +4,7 @@ use mathlib.Core.Bool.{Bool, true, false}
 use Prim.Native.Nat.{ℕ, _+_, _-_, _*_}
 use lib.Dec.{eqb, ltb, leb}
 use lib.ListN.{length, getD}
+use Rattle.geometry.specs.TagMemory.{groups}
 use Rattle.laws.specs.Choice.{both, implies, no}
 use Rattle.laws.specs.Scan.{all}
 use Rattle.geometry.specs.TagMemory.{inLimits, leafOf, mapBlockOf, blocks}
@@ -49,7 +50,7 @@ unfoldable pub trackerWhole : State → ℕ → Bool
 trackerWhole s x =
     let t = trackerAt (s .trackers) x in
     let i = lineOf (s .lines) (s .l) (mapBlock (s .n) (t .group)) in
-    both (both (implies (no (isIdle t)) (ltb (t .group) (16 * s .n))) (phaseWhole (t .write) (t .bottom) (t .phase)))
+    both (both (implies (no (isIdle t)) (ltb (t .group) (groups (s .n)))) (phaseWhole (t .write) (t .bottom) (t .phase)))
     (implies (holdsAt (t .phase)) (both (ltb i (s .l)) (eqb (holder (getD (s .lines) i 0)) (x + 1))))
 
 unfoldable pub whole : State → Bool

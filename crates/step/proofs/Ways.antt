@@ -7,6 +7,7 @@ use native.Mathlib.Omega.{arith}
 use lib.Dec.{eqb, ltb, leb}
 use lib.ListN.{length, getD, set}
 use borrow.Author.Tests.{lt-ltb, le-ltb, le-leb, lt-leb, eq-eqb, ne-eqb, leb-true, ltb-true, eqb-true}
+use Rattle.geometry.specs.TagMemory.{groups}
 use Rattle.laws.specs.Choice.{pick, both}
 use Rattle.laws.proofs.Choice.{both-left, both-right, both-false-left, both-false-right}
 use Rattle.geometry.specs.TagMemory.{inLimits, leafOf, mapByteOf, mapBitOf, memoryLength}
@@ -115,11 +116,11 @@ module _ (n l x : ℕ) (t : Tracker) (r : Rows) where
   fit-lines h = sym (both-false-left _ _ (both-false-right (inLimits n) _ (lt-leb _ _ h)))
 
   pub fit-group : 16 * n ≤ t .group → false ≡ fit n l x t r
-  unfolding fit
+  unfolding fit groups
   fit-group h = sym (both-false-right (both (inLimits n) (leb l (length (r .lines)))) _ (both-false-left _ _ (le-ltb _ _ h)))
 
   pub fit-rest : inLimits n ≡ true → l ≤ length (r .lines) → t .group < 16 * n → ltb x 127 ≡ fit n l x t r
-  unfolding fit both
+  unfolding fit both groups
   fit-rest e h g = rw (e, le-leb _ _ h, lt-ltb _ _ g) refl
 
   module _ (f : fit n l x t r ≡ true) where
@@ -132,7 +133,7 @@ module _ (n l x : ℕ) (t : Tracker) (r : Rows) where
     fit-l = leb-true _ _ (both-right (inLimits n) _ (both-left _ _ f))
 
     pub fit-x : x < 127
-    unfolding fit
+    unfolding fit groups
     fit-x = ltb-true _ _ (both-right (ltb (t .group) (16 * n)) _ (both-right (both (inLimits n) (leb l (length (r .lines)))) _ f))
 
 module _ (n l : ℕ) (bytes memory : List ℕ) where

@@ -10,25 +10,35 @@ use Rattle.tracker.specs.declared.Tracker.{Tracker}
 abbrev pub idle : Tracker
 idle = record { phase = Idle; write = false; bottom = false; group = 0; value = 0; turns = 0 }
 
+-- what a tracker is at each phase: at rest; holding its map block ("Leaf or Finish"); at Finish, its moment behind it
+pub record Standing : Type 0 where
+  pub rests : Bool
+  pub holds : Bool
+  pub finishes : Bool
+
+abbrev standing : Bool → Bool → Bool → Standing
+standing rests holds finishes = record { rests = rests; holds = holds; finishes = finishes }
+
+--                       rests holds finishes
+abbrev pub stands : Phase → Standing
+stands Idle = standing true false false
+stands Probe = standing false false false
+stands Map = standing false false false
+stands Leaf = standing false true false
+stands Set = standing false true true
+stands Clear = standing false true true
+
 abbrev pub isIdleAt : Phase → Bool
-isIdleAt Idle = true
-isIdleAt Probe = false
-isIdleAt Map = false
-isIdleAt Leaf = false
-isIdleAt Set = false
-isIdleAt Clear = false
+isIdleAt p = stands p .rests
+
+abbrev pub holdsAt : Phase → Bool
+holdsAt p = stands p .holds
+
+abbrev pub atFinish : Phase → Bool
+atFinish p = stands p .finishes
 
 abbrev pub isIdle : Tracker → Bool
 isIdle t = isIdleAt (t .phase)
-
--- "Leaf or Finish": where a tracker holds its map block
-abbrev pub holdsAt : Phase → Bool
-holdsAt Idle = false
-holdsAt Probe = false
-holdsAt Map = false
-holdsAt Leaf = true
-holdsAt Set = true
-holdsAt Clear = true
 
 -- "Probe (bottom-up only, first)"; top-down an access begins at Map
 abbrev pub firstPhase : Bool → Phase

@@ -8,6 +8,7 @@ use native.Mathlib.Omega.{arith}
 use lib.Dec.{eqb, ltb, leb}
 use lib.ListN.{length, getD, List·getD-eq-default}
 use borrow.Author.Tests.{lt-ltb, le-ltb, le-leb, lt-leb}
+use Rattle.geometry.specs.TagMemory.{groups}
 use Rattle.laws.specs.Choice.{both, implies, no}
 use Rattle.laws.specs.Scan.{all}
 use Rattle.laws.proofs.Choice.{both-false-left, both-false-right, implied}
@@ -85,18 +86,18 @@ module _ (n l : ℕ) (lines : List ℕ) (ts : List Tracker) (x : ℕ) where
   tracker-idle h = rw (idle-at (trackerAt ts x .phase) h)
 
   pub tracker-far : isIdle (trackerAt ts x) ≡ false → 16 * n ≤ trackerAt ts x .group → trackerWhole (stateOf n 0 l 0 lines ts) x ≡ false
-  unfolding trackerWhole implies both no
+  unfolding trackerWhole implies both no groups
   tracker-far h q = rw (h, le-ltb (trackerAt ts x .group) (16 * n) q)
 
   pub tracker-holds : isIdle (trackerAt ts x) ≡ false → trackerAt ts x .group < 16 * n → holdsAt (trackerAt ts x .phase) ≡ true
       → trackerWhole (stateOf n 0 l 0 lines ts) x
       ≡ both (phaseWhole (trackerAt ts x .write) (trackerAt ts x .bottom) (trackerAt ts x .phase)) (heldByIt n l lines (trackerAt ts x .group) x)
-  unfolding trackerWhole implies both no heldByIt
+  unfolding trackerWhole implies both no heldByIt groups
   tracker-holds h q k = rw (h, lt-ltb (trackerAt ts x .group) (16 * n) q, k)
 
   pub tracker-loose : isIdle (trackerAt ts x) ≡ false → trackerAt ts x .group < 16 * n → holdsAt (trackerAt ts x .phase) ≡ false
       → trackerWhole (stateOf n 0 l 0 lines ts) x ≡ phaseWhole (trackerAt ts x .write) (trackerAt ts x .bottom) (trackerAt ts x .phase)
-  unfolding trackerWhole implies both no
+  unfolding trackerWhole implies both no groups
   tracker-loose h q k = rw (h, lt-ltb (trackerAt ts x .group) (16 * n) q, k) (both-yes _)
 
 no-used : no (used 0) ≡ true

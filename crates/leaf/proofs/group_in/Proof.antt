@@ -1,5 +1,6 @@
 -- `group_in` meets its contract: the group at its place in the line.
 use borrow.Author.Needs.{needs}
+use Rattle.geometry.specs.TagMemory.{byteOf}
 use Rattle.leaf.proofs.group_in.Statement.{statement}
 use Rattle.leaf.proofs.group_in.Tie as tie
 
@@ -10,6 +11,7 @@ byte-of-requires : tie.Need-byte-of-requires
 byte-of-requires c κs = search needs
 
 add-group-at : tie.Need-add-group-at
+unfolding byteOf
 add-group-at c = search needs
 
 group-at-requires : tie.Need-group-at-requires

@@ -2,6 +2,7 @@
 use borrow.Author.Needs.{needs}
 use mathlib.Core.Path.{_∙_}
 use lib.ListN.{length-set}
+use Rattle.geometry.specs.TagMemory.{byteOf}
 use Rattle.turned.proofs.Rule.{by-rule}
 use Rattle.leaf.proofs.Ways.{putIn-clear, putIn-done}
 use Rattle.leaf.proofs.put_in.Statement.{statement}
@@ -14,6 +15,7 @@ byte-of-requires : tie.Need-byte-of-requires
 byte-of-requires c κs = search needs
 
 add-put-group : tie.Need-add-put-group
+unfolding byteOf
 add-put-group c = search needs
 
 put-group-requires : tie.Need-put-group-requires

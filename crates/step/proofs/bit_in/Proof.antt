@@ -1,5 +1,6 @@
 -- `bit_in` meets its contract: the bit at its place in the line.
 use borrow.Author.Needs.{needs}
+use Rattle.geometry.specs.TagMemory.{mapByteOf}
 use Rattle.step.proofs.bit_in.Statement.{statement}
 use Rattle.step.proofs.bit_in.Tie as tie
 
@@ -13,6 +14,7 @@ map-byte-of-requires : tie.Need-map-byte-of-requires
 map-byte-of-requires c κs = search needs
 
 add-bit-at : tie.Need-add-bit-at
+unfolding mapByteOf
 add-bit-at c = search needs
 
 map-bit-of-requires : tie.Need-map-bit-of-requires

@@ -1,5 +1,6 @@
 -- `finish` meets its contract: the bit, the map line's word, the ending.
 use borrow.Author.Needs.{needs}
+use Rattle.geometry.specs.TagMemory.{mapByteOf}
 use Rattle.turned.proofs.Rule.{by-rule}
 use Rattle.step.proofs.Ways.{finish-is}
 use Rattle.step.proofs.finish.Statement.{statement}
@@ -15,6 +16,7 @@ map-byte-of-requires : tie.Need-map-byte-of-requires
 map-byte-of-requires c κs = search needs
 
 add-put-bit : tie.Need-add-put-bit
+unfolding mapByteOf
 add-put-bit c = search needs
 
 map-bit-of-requires : tie.Need-map-bit-of-requires

@@ -2,6 +2,7 @@
 use borrow.Author.Needs.{needs}
 use mathlib.Core.Path.{refl, sym, _∙_}
 use native.Mathlib.Omega.{arith}
+use Rattle.geometry.specs.TagMemory.{leafOf, mapBlockOf}
 use Rattle.whole.proofs.Tests.{not-lined, lined}
 use Rattle.whole.proofs.held_by_it.Statement.{statement}
 use Rattle.whole.proofs.held_by_it.Tie as tie
@@ -13,6 +14,7 @@ map-number-requires : tie.Need-map-number-requires
 map-number-requires c κs = search needs
 
 cast-b : tie.Need-cast-b
+unfolding leafOf mapBlockOf
 cast-b c = search needs
 
 line-of-requires : tie.Need-line-of-requires

@@ -2,6 +2,8 @@
 use borrow.Author.Needs.{needs}
 use mathlib.Core.Path.{refl, sym, _∙_}
 use native.Mathlib.Omega.{arith}
+use Rattle.geometry.specs.TagMemory.{mapByteOf}
+use Rattle.geometry.specs.TagMemory.{mapBlockOf}
 use Rattle.cache.specs.Seen.{seen}
 use Rattle.cache.proofs.Refusals.{bit-lined, bit-memory}
 use Rattle.cache.proofs.State.shown_bit.Statement.{statement}
@@ -11,6 +13,7 @@ map-number-requires : tie.Need-map-number-requires
 map-number-requires c κs = search needs
 
 cast-line-of : tie.Need-cast-line-of
+unfolding mapBlockOf
 cast-line-of c = search needs
 
 line-of-requires : tie.Need-line-of-requires
@@ -23,6 +26,7 @@ map-byte-of-requires : tie.Need-map-byte-of-requires
 map-byte-of-requires c κs = search needs
 
 add-bit-at : tie.Need-add-bit-at
+unfolding mapByteOf
 add-bit-at c = search needs
 
 map-bit-of-requires : tie.Need-map-bit-of-requires
