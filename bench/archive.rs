@@ -1,7 +1,8 @@
 //! MB/s of the image test, writing and restoring: libworkbench.a beside a plain Rust
-//! version written for speed, in one run. `archive [ROUNDS]` (default 15): each round runs
-//! both, one after the other, and the best times count. MB are 1,000,000 bytes of the
-//! image. The largest memory, with 60 of 100 leaves in use and with 2.
+//! version written for speed, in one run. `bench/archive.sh [ROUNDS]` builds and runs it
+//! (default 15): each round runs both, one after the other, and the best times count. MB
+//! are 1,000,000 bytes of the image. The largest memory, with 60 of 100 leaves in use and
+//! with 2.
 
 #[path = "../tests/model.rs"]
 mod model;

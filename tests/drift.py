@@ -93,7 +93,10 @@ class Test:
                 break
 
     def run(self, args):
-        return subprocess.run([self.program] + args, capture_output=True, timeout=600)
+        run = subprocess.run(['./launch', self.program] + args, capture_output=True, timeout=600)
+        if run.stderr.startswith(b'launch: '):
+            sys.exit(run.stderr.decode().strip())
+        return run
 
     def pair(self, title, record, replay):
         """One check in each direction."""

@@ -1,45 +1,33 @@
 //! The two exports of libhost.a against the model: plain reading on random bytes, true or
 //! not, with every refusal; the image test on images of random true memories and on every
-//! damage that `draw` knows. `host [SEED]`; ends with `host: N checks`, status 1 on the
-//! first difference.
+//! damage that `draw` knows. `host DRIVER [SEED]`, in the root of the repository, with the
+//! driver of `tests/host_calls.c`; ends with `host: N checks`, status 1 on the first
+//! difference.
 
+mod driver;
 mod model;
 
+use driver::Argument::{Number, Read};
+use driver::{Driver, Function, Slice};
 use model::draw::{self, Random};
 
-extern "C" {
-    fn tag_plain_read(n: u64, memory: *const u8, length: usize, group: u64) -> u64;
-    fn tag_image_test(image: *const u8, length: usize) -> u64;
-}
+const PLAIN_READ: Function = Function(0, "tag_plain_read");
+const IMAGE_TEST: Function = Function(1, "tag_image_test");
 
-fn difference(what: String) -> ! {
-    println!("host: DIFFERENT: {what}");
-    std::process::exit(1)
-}
-
-/// One reading by both; the memory's bytes are the caller's own afterwards.
-fn read(checks: &mut u64, n: u64, memory: &[u8], g: u64) {
-    let expected = match model::plain_read(n, memory, g) {
+/// One reading by both of a memory: of the first `length` bytes that were put.
+fn read(driver: &mut Driver, n: u64, (bytes, put): (&[u8], &Slice), length: usize, g: u64) {
+    let expected = match model::plain_read(n, &bytes[..length], g) {
         Ok(group) => group as u64,
         Err(refusal) => (1 << 32) + refusal,
     };
-    let got = unsafe { tag_plain_read(n, memory.as_ptr(), memory.len(), g) };
-    if got != expected {
-        let length = memory.len();
-        difference(format!("n {n}, length {length}, group {g}: {got}, the model {expected}"));
-    }
-    *checks += 1;
+    let arguments = vec![Number(n), Read(put.part(0..length)), Number(g)];
+    driver.call(PLAIN_READ, arguments, expected, vec![]);
 }
 
-fn test(checks: &mut u64, image: &[u8]) -> u64 {
+fn test(driver: &mut Driver, image: &[u8]) -> u64 {
     let expected = model::image_test(image);
-    let got = unsafe { tag_image_test(image.as_ptr(), image.len()) };
-    if got != expected {
-        let path = std::env::temp_dir().join("host-different.image");
-        let _ = std::fs::write(&path, image);
-        difference(format!("image test {got}, the model {expected}; image in {}", path.display()));
-    }
-    *checks += 1;
+    let put = driver.put(0, image);
+    driver.call(IMAGE_TEST, vec![Read(put)], expected, vec![]);
     expected
 }
 
@@ -50,8 +38,7 @@ fn leaf_numbers() -> Vec<u64> {
     numbers
 }
 
-fn plain_reading(random: &mut Random) -> u64 {
-    let mut checks = 0;
+fn plain_reading(driver: &mut Driver, random: &mut Random) {
     for (n, rounds) in
         [(1, 200), (2, 200), (511, 20), (512, 20), (513, 20), (800, 20), (262_144, 2)]
     {
@@ -65,40 +52,39 @@ fn plain_reading(random: &mut Random) -> u64 {
             if round % 3 == 0 {
                 random.fill(&mut memory);
             }
+            memory.resize(length + 64, 0);
+            let put = driver.put(0, &memory);
+            let mut read = |n, length, g| read(driver, n, (&memory, &put), length, g);
             let groups = model::GROUPS * n;
             // Every group of a small memory, a choice of a large one.
             if groups <= 16_384 {
-                (0..groups).for_each(|g| read(&mut checks, n, &memory, g));
+                (0..groups).for_each(|g| read(n, length, g));
             } else {
-                (0..100_000).for_each(|_| read(&mut checks, n, &memory, random.below(groups)));
+                (0..100_000).for_each(|_| read(n, length, random.below(groups)));
             }
             let past = [groups - 1, groups, groups + 1, 1 << 32, 1 << 60, u64::MAX];
-            past.iter().for_each(|&g| read(&mut checks, n, &memory, g));
+            past.iter().for_each(|&g| read(n, length, g));
             // Wrong lengths, and other n's with this length; group 0 and one that is too large.
             for cut in [1, 2, 63, 64, 65, 127, 128, length] {
-                let shorter = &memory[..length - cut];
-                read(&mut checks, n, shorter, 0);
-                read(&mut checks, n, shorter, u64::MAX);
+                read(n, length - cut, 0);
+                read(n, length - cut, u64::MAX);
             }
             for other in leaf_numbers() {
-                read(&mut checks, other, &memory, 0);
-                read(&mut checks, other, &memory, u64::MAX);
-                read(&mut checks, other, &memory[..0], 0);
+                read(other, length, 0);
+                read(other, length, u64::MAX);
+                read(other, 0, 0);
             }
-            memory.push(0);
-            read(&mut checks, n, &memory, 0);
-            memory.resize(length + 64, 0);
-            read(&mut checks, n, &memory, 0);
+            read(n, length + 1, 0);
+            read(n, length + 64, 0);
         }
     }
-    checks
 }
 
-fn images(random: &mut Random) -> (u64, [u64; 3]) {
-    let mut checks = 0;
+/// How many images were accepted, refused 10 and refused 11.
+fn images(driver: &mut Driver, random: &mut Random) -> [u64; 3] {
     let mut answers = [0; 3];
     let mut one = |image: &[u8]| {
-        let answer = test(&mut checks, image);
+        let answer = test(driver, image);
         answers[if answer == 0 { 0 } else { answer as usize - 9 }] += 1;
     };
     // Random true memories of every size.
@@ -134,18 +120,24 @@ fn images(random: &mut Random) -> (u64, [u64; 3]) {
     let last = image.len() - 5;
     image[last] ^= 1;
     one(&image);
-    (checks, answers)
+    answers
 }
 
 fn main() {
-    let seed = match std::env::args().nth(1) {
-        None => 1,
-        Some(word) => word.parse().expect("the seed is a number"),
+    let words: Vec<String> = std::env::args().collect();
+    let Some(program) = words.get(1) else {
+        println!("host DRIVER [SEED]");
+        std::process::exit(2)
     };
+    let seed = words.get(2).map_or(1, |word| word.parse().expect("the seed is a number"));
+    let mut driver = Driver::start("host", program);
     let mut random = Random(seed);
-    let readings = plain_reading(&mut random);
-    println!("host: {readings} plain readings, seed {seed}");
-    let (tested, [accepted, check, rule]) = images(&mut random);
-    println!("host: {tested} images: {accepted} accepted, {check} refused 10, {rule} refused 11");
-    println!("host: {} checks", readings + tested);
+    plain_reading(&mut driver, &mut random);
+    println!("host: {} plain readings, seed {seed}", driver.checks);
+    let [accepted, check, rule] = images(&mut driver, &mut random);
+    println!(
+        "host: {} images: {accepted} accepted, {check} refused 10, {rule} refused 11",
+        accepted + check + rule
+    );
+    println!("host: {} checks", driver.finish());
 }

@@ -1,10 +1,10 @@
 //! The replay program against the model, line by line, on random scripts.
 //!
-//! `scripts PATH_TO_REPLAY [SEED [LINES]]`: the scripts of `edges`, then random ones of
-//! every kind until LINES more lines (default 1,000,000) are played. The first difference is
-//! printed, its script saved, and the status is 1. Among them are circle runs: the
-//! trackers are given turns in a fixed circle, idle ones passed over, and no ending may
-//! have more turns than its bound. Ends with `scripts: N scripts, M lines`.
+//! `scripts REPLAY [SEED [LINES]]`, in the root of the repository: the scripts of `edges`,
+//! then random ones of every kind until LINES more lines (default 1,000,000) are played.
+//! The first difference is printed, its script saved, and the status is 1. Among them are
+//! circle runs: the trackers are given turns in a fixed circle, idle ones passed over, and
+//! no ending may have more turns than its bound. Ends with `scripts: N scripts, M lines`.
 
 mod model;
 
@@ -99,10 +99,10 @@ impl Player {
     }
 
     fn start(&self, stdin: Stdio, stderr: Stdio) -> Child {
-        let mut command = Command::new(&self.program);
-        command.stdin(stdin).stdout(Stdio::piped()).stderr(stderr);
+        let mut command = Command::new("./launch");
+        command.arg(&self.program).stdin(stdin).stdout(Stdio::piped()).stderr(stderr);
         command.spawn().unwrap_or_else(|error| {
-            println!("scripts: {}: {error}", self.program);
+            println!("scripts: ./launch: {error}");
             exit(2)
         })
     }
@@ -678,7 +678,7 @@ fn main() {
         Some(word) => word.parse().expect("SEED and LINES are numbers"),
     };
     let Some(program) = words.get(1) else {
-        println!("scripts PATH_TO_REPLAY [SEED [LINES]]");
+        println!("scripts REPLAY [SEED [LINES]]");
         exit(2)
     };
     let (seed, least) = (number(2, 1), number(3, 1_000_000));
