@@ -17,52 +17,54 @@ use Rattle.laws.proofs.Splice.{lt-or-ge, length-part′}
 use Rattle.geometry.specs.TagMemory.{inLimits}
 use Rattle.block.specs.Block.{allZero}
 use Rattle.sums.specs.Check.{checkOf, checkRight}
-use Rattle.image.specs.Encode.{Record, none, recordBytes, recordsBytes, headFront, headOf, blockFront, blockOf, next7, recordBlocks, blocksFor, encode}
-use Rattle.image.specs.Test.{wholeBlocks, imageBlock, numberOf, kindOf, versionOf, leavesOf, recordedOf, countOf, recordIn, recordAt, unusedZero, headSound, countRight, blockSound, soundAt, recordCount, goodRecord, leavesIn, recordedIn, checksRight}
+use Rattle.image.specs.Encode.{Form, Sized, Record, none, recordBytes, recordsBytes, headFront, headRest, headOf, blockFront, blockWith, blockOf, next7, recordBlocks, blocksFor, encode}
+use Rattle.image.specs.Test.{wholeBlocks, imageBlock, numberOf, kindOf, versionOf, leavesOf, recordedOf, countOf, recordIn, recordAt, unusedZero, headSound, countRight, blockSound, soundAt, recordCount, goodRecord, leavesIn, recordedIn, checksRight, same}
 use Rattle.image.specs.Calls.{recordsIn}
 use Rattle.image.proofs.Sound.{sound-head, sound-block, sound-count, count-bounds, count-full, records-none, records-by}
 use Rattle.image.proofs.Rules.{Accepted, accepted-fits}
-use Rattle.image.proofs.Records.{Sized, length-recordsTo, recordsTo-at, next-few, next-full}
-use Rattle.archive.proofs.Fields.{part-add, part-front, part-none, take-block, Bytes-part, number-back, zero-zeros, right-sealed}
+use Rattle.image.proofs.Records.{length-recordsTo, recordsTo-at, next-few, next-full}
+use Rattle.laws.proofs.Parts.{part-add, part-front, part-none, take-part, Bytes-part, number-back}
+use Rattle.image.proofs.Rows.{zero-zeros, same-is}
+use Rattle.sums.proofs.Right.{right-sealed}
 use Rattle.archive.specs.Theorems.{listed, Good}
 use Rattle.archive.proofs.Written.{good-same}
 
 -- what a sound head says
-module _ (version : ℕ) (b : List ℕ) (h : headSound version b ≡ true) where
-  fields : both (eqb (length b) 512) (both (eqb (numberOf b) 0) (both (eqb (kindOf b) 1) (both (eqb (versionOf b) version) (both (inLimits (leavesOf b)) (unusedZero b 16))))) ≡ true
+module _ (F : Form) (b : List ℕ) (h : headSound F b ≡ true) where
+  fields : both (eqb (length b) 512) (both (eqb (numberOf b) 0) (both (eqb (kindOf b) 1) (both (eqb (versionOf b) (F .version)) (both (inLimits (leavesOf b)) (same (part b 16 492) (headRest F)))))) ≡ true
   unfolding headSound
   fields = h
 
-  f₁ : both (eqb (numberOf b) 0) (both (eqb (kindOf b) 1) (both (eqb (versionOf b) version) (both (inLimits (leavesOf b)) (unusedZero b 16)))) ≡ true
+  f₁ : both (eqb (numberOf b) 0) (both (eqb (kindOf b) 1) (both (eqb (versionOf b) (F .version)) (both (inLimits (leavesOf b)) (same (part b 16 492) (headRest F))))) ≡ true
   f₁ = both-right _ _ fields
 
-  f₂ : both (eqb (kindOf b) 1) (both (eqb (versionOf b) version) (both (inLimits (leavesOf b)) (unusedZero b 16))) ≡ true
+  f₂ : both (eqb (kindOf b) 1) (both (eqb (versionOf b) (F .version)) (both (inLimits (leavesOf b)) (same (part b 16 492) (headRest F)))) ≡ true
   f₂ = both-right _ _ f₁
 
-  f₃ : both (eqb (versionOf b) version) (both (inLimits (leavesOf b)) (unusedZero b 16)) ≡ true
+  f₃ : both (eqb (versionOf b) (F .version)) (both (inLimits (leavesOf b)) (same (part b 16 492) (headRest F))) ≡ true
   f₃ = both-right _ _ f₂
 
-  f₄ : both (inLimits (leavesOf b)) (unusedZero b 16) ≡ true
+  f₄ : both (inLimits (leavesOf b)) (same (part b 16 492) (headRest F)) ≡ true
   f₄ = both-right _ _ f₃
 
   pub head-limits : inLimits (leavesOf b) ≡ true
   head-limits = both-left _ _ f₄
 
   -- a sound head with a right check is the head that is written
-  pub head-written : (M : ℕ) → Bytes b → checkRight M b ≡ true → b ≡ headOf M version (leavesOf b) (recordedOf b)
+  pub head-written : Bytes b → checkRight (F .modulus) b ≡ true → b ≡ headOf F (leavesOf b) (recordedOf b)
   unfolding headOf
-  head-written M B r =
+  head-written B r =
       let l : length b ≡ 512 = eqb-true _ _ (both-left _ _ fields) in
       let p₀ : part b 0 4 ≡ bytes 4 0 = number-back b 0 4 0 B (omega arith) (eqb-true _ _ (both-left _ _ f₁)) in
       let p₄ : part b 4 2 ≡ bytes 2 1 = number-back b 4 2 1 B (omega arith) (eqb-true _ _ (both-left _ _ f₂)) in
-      let p₆ : part b 6 2 ≡ bytes 2 version = number-back b 6 2 version B (omega arith) (eqb-true _ _ (both-left _ _ f₃)) in
+      let p₆ : part b 6 2 ≡ bytes 2 (F .version) = number-back b 6 2 (F .version) B (omega arith) (eqb-true _ _ (both-left _ _ f₃)) in
       let p₈ : part b 8 4 ≡ bytes 4 (leavesOf b) = number-back b 8 4 (leavesOf b) B (omega arith) refl in
       let p₁₂ : part b 12 4 ≡ bytes 4 (recordedOf b) = number-back b 12 4 (recordedOf b) B (omega arith) refl in
-      let z : part b 16 492 ≡ replicate 492 0 = zero-zeros (part b 16 492) 492 (length-part′ b 16 492 (omega arith)) (both-right _ _ f₄) in
-      let front : part b 0 16 ≡ headFront version (leavesOf b) (recordedOf b) =
+      let z : part b 16 492 ≡ headRest F = same-is (part b 16 492) (headRest F) (both-right _ _ f₄) in
+      let front : part b 0 16 ≡ headFront F (leavesOf b) (recordedOf b) =
       part-add b 0 4 12 ∙ (λ i. p₀ i ++ (part-add b 4 2 10 ∙ (λ i. p₄ i ++ (part-add b 6 2 8 ∙ (λ i. p₆ i ++ (part-add b 8 4 4 ∙ (λ i. p₈ i ++ p₁₂ i)) i)) i)) i) in
-      let e : take 508 b ≡ headFront version (leavesOf b) (recordedOf b) ++ replicate 492 0 = sym (part-front b 508) ∙ part-add b 0 16 492 ∙ (λ i. front i ++ z i) in
-      right-sealed M b B r ∙ ap (λ (x : List ℕ). x ++ checkOf M x) e
+      let e : take 508 b ≡ headFront F (leavesOf b) (recordedOf b) ++ headRest F = sym (part-front b 508) ∙ part-add b 0 16 492 ∙ (λ i. front i ++ z i) in
+      right-sealed (F .modulus) b B r ∙ ap (λ (x : List ℕ). x ++ checkOf (F .modulus) x) e
 
 -- what a sound record block says
 module _ (last : Bool) (j : ℕ) (b : List ℕ) (h : blockSound last j b ≡ true) where
@@ -102,7 +104,7 @@ module _ (last : Bool) (j : ℕ) (b : List ℕ) (h : blockSound last j b ≡ tru
       right-sealed M b B r ∙ ap (λ (x : List ℕ). x ++ checkOf M x) e
 
 -- an accepted image, block by block
-module _ (M version : ℕ) (image : List ℕ) (A : Accepted M version image) where
+module _ (F : Form) (image : List ℕ) (A : Accepted F image) where
   abbrev W : ℕ
   W = wholeBlocks image
 
@@ -118,18 +120,18 @@ module _ (M version : ℕ) (image : List ℕ) (A : Accepted M version image) whe
   some-block : 1 ≤ W
   some-block = omega (arith, long, A .some)
 
-  right-at : (j : ℕ) → j < W → checkRight M (imageBlock image j) ≡ true
+  right-at : (j : ℕ) → j < W → checkRight (F .modulus) (imageBlock image j) ≡ true
   unfolding checksRight
-  right-at j l = all-at (λ i. checkRight M (imageBlock image i)) W (A .checks) j l
+  right-at j l = all-at (λ i. checkRight (F .modulus) (imageBlock image i)) W (A .checks) j l
 
-  head-ok : headSound version (imageBlock image 0) ≡ true
-  head-ok = sym (sound-head version image 0 refl) ∙ all-at (soundAt version image) W (A .sound) 0 some-block
+  head-ok : headSound F (imageBlock image 0) ≡ true
+  head-ok = sym (sound-head F image 0 refl) ∙ all-at (soundAt F image) W (A .sound) 0 some-block
 
   abbrev last : ℕ → Bool
   last j = eqb (suc j + 1) W
 
   block-ok : (j : ℕ) → suc j < W → blockSound (last j) (suc j) (imageBlock image (suc j)) ≡ true
-  block-ok j l = sym (sound-block version image (suc j) (λ e. absurd (omega arith))) ∙ all-at (soundAt version image) W (A .sound) (suc j) l
+  block-ok j l = sym (sound-block F image (suc j) (λ e. absurd (omega arith))) ∙ all-at (soundAt F image) W (A .sound) (suc j) l
 
   abbrev count : ℕ → ℕ
   count j = countOf (imageBlock image (suc j))
@@ -173,7 +175,7 @@ module _ (M version : ℕ) (image : List ℕ) (A : Accepted M version image) whe
       (lt-or-ge (suc j + 1) W)
 
   pub in-limits : inLimits (leavesIn image) ≡ true
-  in-limits = head-limits version (imageBlock image 0) head-ok
+  in-limits = head-limits F (imageBlock image 0) head-ok
 
   -- and its records are good
   pub good-records : Good (leavesIn image) rs
@@ -182,14 +184,14 @@ module _ (M version : ℕ) (image : List ℕ) (A : Accepted M version image) whe
       let f : length rs ≡ m = length-recordsTo (recordAt image) m in
       record {
         sized = λ p l. ap (λ (r : Record). length (r .content)) (recordsTo-at (recordAt image) m p (omega arith)) ∙ content-long p (omega arith);
-        each = rw f (all-is (goodRecord (leavesIn image) (listed rs)) m (λ p l.
+        each = rw f (all-is (goodRecord (leavesIn image) 0 (listed rs)) m (λ p l.
             good-same (leavesIn image) (listed rs) (recordAt image) p (λ q k. recordsTo-at (recordAt image) m q (omega arith))
-            ∙ all-at (goodRecord (leavesIn image) (recordAt image)) (recordCount image) (A .good) p (omega (arith, A .count))));
+            ∙ all-at (goodRecord (leavesIn image) 0 (recordAt image)) (recordCount image) (A .good) p (omega (arith, A .count))));
       }
     where
       content-long : (p : ℕ) → p < m → length (recordAt image p .content) ≡ 64
       content-long p l =
-          let w : 1 + p / 7 < W = omega (arith, accepted-fits M version image A) in
+          let w : 1 + p / 7 < W = omega (arith, accepted-fits F image A) in
           let lb : length (imageBlock image (1 + p / 7)) ≡ 512 = length-part′ image (512 * (1 + p / 7)) 512 (omega (arith, long)) in
           length-part′ (imageBlock image (1 + p / 7)) (12 + 68 * (p % 7)) 64 (omega arith)
 
@@ -218,29 +220,29 @@ module _ (M version : ℕ) (image : List ℕ) (A : Accepted M version image) whe
         ++ (part-add b (8 + 68 * c) 4 64 ∙ (λ i. number-back b (8 + 68 * c) 4 (numberAt 4 b (8 + 68 * c)) (bytes-at (suc j) l) (omega arith) refl i ++ part b (e₄ i) 64)
         ∙ ap recordBytes (sym g)) i)
 
-    pub block-is : (j : ℕ) → suc j < W → imageBlock image (suc j) ≡ blockOf M (suc j) rs (7 * j) (next7 (length rs - 7 * j))
-    unfolding blockOf
+    pub block-is : (j : ℕ) → suc j < W → imageBlock image (suc j) ≡ blockOf (F .modulus) (suc j) rs (7 * j) (next7 (length rs - 7 * j))
+    unfolding blockWith
     block-is j l =
         let R : List ℕ = part (imageBlock image (suc j)) 8 (68 * count j) in
         let e : count j ≡ next7 (length rs - 7 * j) = count-next j l ∙ ap (λ (x : ℕ). next7 (x - 7 * j)) (sym (length-recordsTo (recordAt image) m)) in
-        block-written (last j) (suc j) (imageBlock image (suc j)) (block-ok j l) M (bytes-at (suc j) l) (right-at (suc j) l)
-        ∙ ap (λ (x : List ℕ). ((blockFront (suc j) (count j) ++ x) ++ replicate (500 - 68 * count j) 0) ++ checkOf M ((blockFront (suc j) (count j) ++ x) ++ replicate (500 - 68 * count j) 0)) (records-are j l (count j) (omega arith))
-        ∙ ap (blockOf M (suc j) rs (7 * j)) e
+        block-written (last j) (suc j) (imageBlock image (suc j)) (block-ok j l) (F .modulus) (bytes-at (suc j) l) (right-at (suc j) l)
+        ∙ ap (λ (x : List ℕ). ((blockFront (suc j) (count j) ++ x) ++ replicate (500 - 68 * count j) 0) ++ checkOf (F .modulus) ((blockFront (suc j) (count j) ++ x) ++ replicate (500 - 68 * count j) 0)) (records-are j l (count j) (omega arith))
+        ∙ ap (blockOf (F .modulus) (suc j) rs (7 * j)) e
 
-    pub head-is : imageBlock image 0 ≡ headOf M version (leavesIn image) m
-    head-is = head-written version (imageBlock image 0) head-ok M (bytes-at 0 some-block) (right-at 0 some-block)
+    pub head-is : imageBlock image 0 ≡ headOf F (leavesIn image) m
+    head-is = head-written F (imageBlock image 0) head-ok (bytes-at 0 some-block) (right-at 0 some-block)
 
     -- the blocks up to block j
-    up-to : (j : ℕ) → j < W → take (512 * suc j) image ≡ headOf M version (leavesIn image) m ++ recordBlocks M rs j
+    up-to : (j : ℕ) → j < W → take (512 * suc j) image ≡ headOf F (leavesIn image) m ++ recordBlocks (F .modulus) rs j
     unfolding recordBlocks
-    up-to zero l = sym (part-front image 512) ∙ head-is ∙ sym (append-nil (headOf M version (leavesIn image) m))
+    up-to zero l = sym (part-front image 512) ∙ head-is ∙ sym (append-nil (headOf F (leavesIn image) m))
     up-to (suc j) l =
         let e : 512 * suc (suc j) ≡ 512 * suc j + 512 = omega arith in
-        ap (λ (x : ℕ). take x image) e ∙ take-block image (512 * suc j)
+        ap (λ (x : ℕ). take x image) e ∙ take-part image (512 * suc j) 512
         ∙ (λ i. up-to j (omega arith) i ++ block-is j l i)
-        ∙ append-assoc (headOf M version (leavesIn image) m) (recordBlocks M rs j) (blockOf M (suc j) rs (7 * j) (next7 (length rs - 7 * j)))
+        ∙ append-assoc (headOf F (leavesIn image) m) (recordBlocks (F .modulus) rs j) (blockOf (F .modulus) (suc j) rs (7 * j) (next7 (length rs - 7 * j)))
 
-    pub is-encoding : image ≡ encode M version (leavesIn image) rs
+    pub is-encoding : image ≡ encode F (leavesIn image) rs
     unfolding encode
     is-encoding =
         let j : ℕ = W - 1 in
@@ -248,4 +250,4 @@ module _ (M version : ℕ) (image : List ℕ) (A : Accepted M version image) whe
         let f : length rs ≡ m = length-recordsTo (recordAt image) m in
         let g : blocksFor (length rs) ≡ j = ap blocksFor f ∙ few-blocks in
         sym (take-all (512 * suc j) image (omega arith)) ∙ up-to j (omega (arith, some-block))
-        ∙ (λ i. headOf M version (leavesIn image) (sym f i) ++ recordBlocks M rs (sym g i))
+        ∙ (λ i. headOf F (leavesIn image) (sym f i) ++ recordBlocks (F .modulus) rs (sym g i))

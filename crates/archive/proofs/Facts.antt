@@ -1,20 +1,27 @@
 -- Facts of 01 "Archive image": "m = 0 gives one block; m = 7 two; m = 8 three", and the head's check for n = 2, m = 0, 05 00 E9 04.
-use mathlib.Core.Path.{_≡_, refl}
-use mathlib.Core.List.{[], _∷_}
-use Prim.Native.Nat.{_+_}
+use mathlib.Core.Path.{_≡_, refl, ap, _∙_}
+use mathlib.Core.List.{List, [], _∷_}
+use Prim.Native.Nat.{ℕ, _+_, _*_}
+use lib.ListN.{length}
 use Rattle.laws.specs.Bytes.{part, bytes}
 use Rattle.sums.specs.Check.{sumA, sumB, checkOf}
-use Rattle.image.specs.Encode.{headOf, blocksFor}
+use Rattle.image.specs.Encode.{version1, Record, Sized, headOf, blocksFor, encode}
+use Rattle.image.proofs.Records.{length-encode}
+use Rattle.archive.proofs.RoundTrip.{fit-1}
 
-pub blocks-0 : 1 + blocksFor 0 ≡ 1
-blocks-0 = refl
+module _ (n : ℕ) (rs : List Record) (s : Sized rs) where
+  blocks : (m : ℕ) → length rs ≡ m → length (encode version1 n rs) ≡ 512 * (1 + blocksFor m)
+  blocks m e = length-encode version1 n rs (fit-1 .room) s ∙ ap (λ (x : ℕ). 512 * (1 + blocksFor x)) e
 
-pub blocks-7 : 1 + blocksFor 7 ≡ 2
-blocks-7 = refl
+  pub blocks-0 : length rs ≡ 0 → length (encode version1 n rs) ≡ 512
+  blocks-0 e = blocks 0 e
 
-pub blocks-8 : 1 + blocksFor 8 ≡ 3
-blocks-8 = refl
+  pub blocks-7 : length rs ≡ 7 → length (encode version1 n rs) ≡ 1024
+  blocks-7 e = blocks 7 e
 
-pub head-check : part (headOf 65535 1 2 0) 508 4 ≡ 0x05 ∷ 0x00 ∷ 0xE9 ∷ 0x04 ∷ []
-unfolding part bytes sumA sumB checkOf headOf
+  pub blocks-8 : length rs ≡ 8 → length (encode version1 n rs) ≡ 1536
+  blocks-8 e = blocks 8 e
+
+pub head-check : part (headOf version1 2 0) 508 4 ≡ 0x05 ∷ 0x00 ∷ 0xE9 ∷ 0x04 ∷ []
+unfolding version1 part bytes sumA sumB checkOf headOf
 head-check = refl

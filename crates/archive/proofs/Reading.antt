@@ -6,9 +6,9 @@ use Prim.Native.Nat.{ℕ, zero, suc, _+_, _*_, _/_, _%_, _-_, _≤_, _<_}
 use native.Mathlib.Omega.{arith}
 use Rattle.laws.specs.Bytes.{part}
 use Rattle.laws.proofs.Splice.{lt-or-ge}
-use Rattle.image.specs.Encode.{next7}
+use Rattle.image.specs.Encode.{Form, next7}
 use Rattle.image.specs.Test.{wholeBlocks, imageBlock, countOf, recordAt, recordedIn}
-use Rattle.image.proofs.Parts.{part-part}
+use Rattle.laws.proofs.Parts.{part-part}
 use Rattle.image.proofs.Rules.{Accepted, accepted-fits}
 use Rattle.image.proofs.Records.{next-few}
 use Rattle.reader.specs.declared.Reading.{Reading}
@@ -18,18 +18,18 @@ use Rattle.archive.specs.Theorems.{placeAfter, readAfter}
 use Rattle.archive.proofs.Written.{under7}
 use Rattle.archive.proofs.Encoded.{long, count-next}
 
-module _ (M version : ℕ) (image : List ℕ) (A : Accepted M version image) where
+module _ (F : Form) (image : List ℕ) (A : Accepted F image) where
   abbrev m : ℕ
   m = recordedIn image
 
   count-is : (p : ℕ) → 1 + p / 7 < wholeBlocks image → countOf (imageBlock image (1 + p / 7)) ≡ next7 (m - 7 * (p / 7))
   count-is p l =
       let e : 1 + p / 7 ≡ suc (p / 7) = omega arith in
-      ap (λ (x : ℕ). countOf (imageBlock image x)) e ∙ count-next M version image A (p / 7) (omega arith)
+      ap (λ (x : ℕ). countOf (imageBlock image x)) e ∙ count-next F image A (p / 7) (omega arith)
 
   pub reads-record : (p : ℕ) → p < m → readingAt image p ≡ theRecord image p
   reads-record p l =
-      let w : 1 + p / 7 < wholeBlocks image = omega (arith, accepted-fits M version image A) in
+      let w : 1 + p / 7 < wholeBlocks image = omega (arith, accepted-fits F image A) in
       is-record image p w (omega (arith, count-is p w, under7 (m - 7 * (p / 7)) (p % 7) (omega arith) (omega arith)))
 
   pub reads-end : readingAt image m ≡ theEnd m
@@ -42,8 +42,8 @@ module _ (M version : ℕ) (image : List ℕ) (A : Accepted M version image) whe
   -- the bytes of the record are where it says
   pub reads-content : (p : ℕ) → p < m → part image (contentPlace p) 64 ≡ recordAt image p .content
   reads-content p l =
-      let w : 1 + p / 7 < wholeBlocks image = omega (arith, accepted-fits M version image A) in
-      sym (part-part image (512 * (1 + p / 7)) 512 (12 + 68 * (p % 7)) 64 (omega (arith, long M version image A)) (omega arith))
+      let w : 1 + p / 7 < wholeBlocks image = omega (arith, accepted-fits F image A) in
+      sym (part-part image (512 * (1 + p / 7)) 512 (12 + 68 * (p % 7)) 64 (omega (arith, long F image A)) (omega arith))
 
   -- read after read: record k after k reads, up to m; then the end, again and again
   pub place-is : (k : ℕ) → k ≤ m → placeAfter image k ≡ k

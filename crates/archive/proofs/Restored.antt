@@ -14,7 +14,6 @@ use borrow.Author.Tests.{eqb-true, eqb-false, le-leb, lt-ltb}
 use Rattle.laws.specs.Choice.{no}
 use Rattle.laws.specs.Bits.{withBit}
 use Rattle.laws.specs.Bytes.{part, splice}
-use Rattle.laws.proofs.Choice.{both-true, true-or-false}
 use Rattle.laws.proofs.Scan.{all-is, all-at}
 use Rattle.laws.proofs.Splice.{lt-or-ge, length-splice, getD-after, part-same, part-other, getD-part, length-part′}
 use Rattle.laws.proofs.Put.{putW-fits}
@@ -25,17 +24,17 @@ use Rattle.block.proofs.BitsOf.{putBit-is, bitAt-zero, bitAt-putBit-same, bitAt
 use Rattle.memory.specs.PlainReading.{leafBit}
 use Rattle.memory.specs.True.{blockAt, isTrue}
 use Rattle.memory.proofs.Truth.{isTrue-at, isTrue-all, trueAt-0, trueAt-1}
-use Rattle.image.specs.Encode.{Record, none, recordOf, recordsBelow, recordsOf}
+use Rattle.image.specs.Encode.{Record, none, Sized, recordOf, recordsBelow, recordsOf}
 use Rattle.image.specs.Test.{lowest, goodAbove, goodRecord}
 use Rattle.image.specs.Calls.{putRecord, filled, memoryOf}
-use Rattle.image.proofs.Rules.{no-not}
-use Rattle.image.proofs.Records.{Sized, Marked, marked, marked-is, records-sized, length-below, length-rises, below-none, below-take, below-skip}
+use Rattle.laws.proofs.Choice.{both-true, true-or-false, no-not}
+use Rattle.image.proofs.Records.{Marked, marked, marked-is, records-sized, length-below, length-rises, below-none, below-take, below-skip}
 use Rattle.archive.specs.Theorems.{listed, Good}
 use Rattle.archive.proofs.Written.{leaf-above, leaf-below, leaf-some}
 
 -- the records of a true memory
 module _ (n : ℕ) (mem : List ℕ) (long : length mem ≡ memoryLength n) (t : isTrue n mem ≡ true) where
-  rises : (p : ℕ) (k : Marked n mem n p) → lowest (listed (recordsOf n mem)) p ≤ k .leaf
+  rises : (p : ℕ) (k : Marked n mem n p) → lowest 0 (listed (recordsOf n mem)) p ≤ k .leaf
   unfolding lowest
   rises zero k = omega arith
   rises (suc p) k =
@@ -49,7 +48,7 @@ module _ (n : ℕ) (mem : List ℕ) (long : length mem ≡ memoryLength n) (t : 
   some : (k : ℕ) → k < n → leafBit n mem k ≡ 1 → no (allZero (blockAt mem k)) ≡ true
   some k l b = sym (no-not (allZero (blockAt mem k))) ∙ sym (trueAt-1 n mem k b l) ∙ isTrue-at n mem t k (leaf-has-bit n k l)
 
-  good-at : (p : ℕ) → p < length (recordsOf n mem) → goodRecord n (listed (recordsOf n mem)) p ≡ true
+  good-at : (p : ℕ) → p < length (recordsOf n mem) → goodRecord n 0 (listed (recordsOf n mem)) p ≡ true
   unfolding goodRecord goodAbove
   good-at p l =
       let k : Marked n mem n p = marked n mem n p l in
@@ -57,7 +56,7 @@ module _ (n : ℕ) (mem : List ℕ) (long : length mem ≡ memoryLength n) (t : 
       (both-true _ _ (le-leb _ _ (rises p k)) (both-true _ _ (lt-ltb _ _ (k .below)) (some (k .leaf) (k .below) (k .bit))))
 
   pub true-records-good : Good n (recordsOf n mem)
-  true-records-good = record { sized = records-sized n mem (omega arith); each = all-is (goodRecord n (listed (recordsOf n mem))) (length (recordsOf n mem)) good-at }
+  true-records-good = record { sized = records-sized n mem (omega arith); each = all-is (goodRecord n 0 (listed (recordsOf n mem))) (length (recordsOf n mem)) good-at }
 
 -- a part before a store
 part-set : (l : List ℕ) (a v c w : ℕ) → c + w ≤ a → c + w ≤ length l → part (set l a v) c w ≡ part l c w
@@ -132,8 +131,8 @@ module _ (n : ℕ) (rs : List Record) (G : Good n rs) where
   abbrev leaf : ℕ → ℕ
   leaf p = listed rs p .leaf
 
-  good-p : (p : ℕ) → p < length rs → goodRecord n (listed rs) p ≡ true
-  good-p p l = all-at (goodRecord n (listed rs)) (length rs) (G .each) p l
+  good-p : (p : ℕ) → p < length rs → goodRecord n 0 (listed rs) p ≡ true
+  good-p p l = all-at (goodRecord n 0 (listed rs)) (length rs) (G .each) p l
 
   below-n : (p : ℕ) → p < length rs → leaf p < n
   below-n p l = leaf-below n (listed rs) p (good-p p l)

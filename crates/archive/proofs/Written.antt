@@ -19,14 +19,15 @@ use Rattle.geometry.specs.TagMemory.{inLimits}
 use Rattle.geometry.proofs.Limits.{inLimits-most}
 use Rattle.block.specs.Block.{allZero}
 use Rattle.sums.specs.Check.{checkOf, checkRight}
-use Rattle.image.specs.Encode.{Record, none, recordBytes, recordsBytes, headFront, headOf, blockFront, blockOf, next7, recordBlocks, blocksFor, encode}
-use Rattle.image.specs.Test.{wholeBlocks, imageBlock, numberOf, kindOf, versionOf, leavesOf, recordedOf, countOf, recordIn, recordAt, unusedZero, headSound, countRight, blockSound, soundAt, recordCount, lowest, goodAbove, goodRecord, leavesIn, recordedIn, checksRight, imageTest}
-use Rattle.image.proofs.Parts.{part-part, numberAt-part}
+use Rattle.image.specs.Encode.{Form, Fit, Sized, Record, none, recordBytes, recordsBytes, headFront, headRest, headOf, blockFront, blockWith, blockOf, next7, recordBlocks, blocksFor, encode}
+use Rattle.image.specs.Test.{wholeBlocks, imageBlock, numberOf, kindOf, versionOf, leavesOf, recordedOf, countOf, recordIn, recordAt, unusedZero, headSound, countRight, blockSound, soundAt, recordCount, lowest, goodAbove, goodRecord, leavesIn, recordedIn, checksRight, testBy, same}
+use Rattle.laws.proofs.Parts.{piece, part-left, part-right, part-part, number, numberAt-part}
 use Rattle.image.proofs.Sound.{head-by, block-by, sound-head, sound-block, count-last, count-full, records-none, records-by}
 use Rattle.image.proofs.Rules.{is-accepted}
-use Rattle.image.proofs.Records.{Sized, length-headFront, length-head, length-blockFront, length-records, length-record, length-payload, length-block, length-blocks, length-encode, next-few, next-full, next-bounds}
+use Rattle.image.proofs.Records.{length-headFront, length-rest, length-headed, length-head, length-blockFront, length-records, length-record, length-payload, length-block, length-blocks, length-encode, next-few, next-full, next-bounds}
 use Rattle.archive.specs.Theorems.{listed, Good}
-use Rattle.archive.proofs.Fields.{piece, part-left, part-right, number, zeros-zero, sealed-right}
+use Rattle.image.proofs.Rows.{zeros-zero, same-self}
+use Rattle.sums.proofs.Right.{sealed-right}
 
 head-flat : (A B X N L Z C : List ℕ) → ((A ++ (B ++ (X ++ (N ++ L)))) ++ Z) ++ C ≡ A ++ (B ++ (X ++ (N ++ (L ++ (Z ++ C)))))
 head-flat A B X N L Z C = simp append-assoc
@@ -44,54 +45,51 @@ from-fourth : (A B X N T : List ℕ) → A ++ (B ++ (X ++ (N ++ T))) ≡ ((A ++ 
 from-fourth A B X N T = simp append-assoc
 
 -- the head's fields
-module _ (M version n m : ℕ) (hn : n < 4294967296) (hm : m < 4294967296) (hv : version < 65536) where
+module _ (F : Form) (n m : ℕ) (hn : n < 4294967296) (hm : m < 4294967296) (fit : Fit F) where
   abbrev C : List ℕ
-  C = checkOf M (headFront version n m ++ replicate 492 0)
+  C = checkOf (F .modulus) (headFront F n m ++ headRest F)
 
-  head-is : headOf M version n m ≡ bytes 4 0 ++ (bytes 2 1 ++ (bytes 2 version ++ (bytes 4 n ++ (bytes 4 m ++ (replicate 492 0 ++ C)))))
+  head-is : headOf F n m ≡ bytes 4 0 ++ (bytes 2 1 ++ (bytes 2 (F .version) ++ (bytes 4 n ++ (bytes 4 m ++ (headRest F ++ C)))))
   unfolding headOf
-  head-is = head-flat (bytes 4 0) (bytes 2 1) (bytes 2 version) (bytes 4 n) (bytes 4 m) (replicate 492 0) C
+  head-is = head-flat (bytes 4 0) (bytes 2 1) (bytes 2 (F .version)) (bytes 4 n) (bytes 4 m) (headRest F) C
 
-  pub head-number : numberOf (headOf M version n m) ≡ 0
-  head-number = number (headOf M version n m) [] (bytes 2 1 ++ (bytes 2 version ++ (bytes 4 n ++ (bytes 4 m ++ (replicate 492 0 ++ C))))) 0 4 0 head-is refl (omega arith)
+  pub head-number : numberOf (headOf F n m) ≡ 0
+  head-number = number (headOf F n m) [] (bytes 2 1 ++ (bytes 2 (F .version) ++ (bytes 4 n ++ (bytes 4 m ++ (headRest F ++ C))))) 0 4 0 head-is refl (omega arith)
 
-  pub head-kind : kindOf (headOf M version n m) ≡ 1
-  head-kind = number (headOf M version n m) (bytes 4 0) (bytes 2 version ++ (bytes 4 n ++ (bytes 4 m ++ (replicate 492 0 ++ C)))) 4 2 1 head-is (length-bytes 4 0) (omega arith)
+  pub head-kind : kindOf (headOf F n m) ≡ 1
+  head-kind = number (headOf F n m) (bytes 4 0) (bytes 2 (F .version) ++ (bytes 4 n ++ (bytes 4 m ++ (headRest F ++ C)))) 4 2 1 head-is (length-bytes 4 0) (omega arith)
 
-  pub head-version : versionOf (headOf M version n m) ≡ version
+  pub head-version : versionOf (headOf F n m) ≡ F .version
   head-version =
-      number (headOf M version n m) (bytes 4 0 ++ bytes 2 1) (bytes 4 n ++ (bytes 4 m ++ (replicate 492 0 ++ C))) 6 2 version (head-is ∙ from-second (bytes 4 0) (bytes 2 1) (bytes 2 version ++ (bytes 4 n ++ (bytes 4 m ++ (replicate 492 0 ++ C)))))
-      (omega (arith, length-append (bytes 4 0) (bytes 2 1), length-bytes 4 0, length-bytes 2 1)) (omega arith)
+      number (headOf F n m) (bytes 4 0 ++ bytes 2 1) (bytes 4 n ++ (bytes 4 m ++ (headRest F ++ C))) 6 2 (F .version) (head-is ∙ from-second (bytes 4 0) (bytes 2 1) (bytes 2 (F .version) ++ (bytes 4 n ++ (bytes 4 m ++ (headRest F ++ C)))))
+      (omega (arith, length-append (bytes 4 0) (bytes 2 1), length-bytes 4 0, length-bytes 2 1)) (omega (arith, fit .number))
 
-  l₈ : length (bytes 4 0 ++ (bytes 2 1 ++ bytes 2 version)) ≡ 8
-  l₈ = omega (arith, length-append (bytes 4 0) (bytes 2 1 ++ bytes 2 version), length-append (bytes 2 1) (bytes 2 version), length-bytes 4 0, length-bytes 2 1, length-bytes 2 version)
+  l₈ : length (bytes 4 0 ++ (bytes 2 1 ++ bytes 2 (F .version))) ≡ 8
+  l₈ = omega (arith, length-append (bytes 4 0) (bytes 2 1 ++ bytes 2 (F .version)), length-append (bytes 2 1) (bytes 2 (F .version)), length-bytes 4 0, length-bytes 2 1, length-bytes 2 (F .version))
 
-  pub head-leaves : leavesOf (headOf M version n m) ≡ n
+  pub head-leaves : leavesOf (headOf F n m) ≡ n
   head-leaves =
-      number (headOf M version n m) (bytes 4 0 ++ (bytes 2 1 ++ bytes 2 version)) (bytes 4 m ++ (replicate 492 0 ++ C)) 8 4 n (head-is ∙ from-third (bytes 4 0) (bytes 2 1) (bytes 2 version) (bytes 4 n ++ (bytes 4 m ++ (replicate 492 0 ++ C)))) l₈ (omega arith)
+      number (headOf F n m) (bytes 4 0 ++ (bytes 2 1 ++ bytes 2 (F .version))) (bytes 4 m ++ (headRest F ++ C)) 8 4 n (head-is ∙ from-third (bytes 4 0) (bytes 2 1) (bytes 2 (F .version)) (bytes 4 n ++ (bytes 4 m ++ (headRest F ++ C)))) l₈ (omega arith)
 
-  pub head-recorded : recordedOf (headOf M version n m) ≡ m
+  pub head-recorded : recordedOf (headOf F n m) ≡ m
   head-recorded =
-      number (headOf M version n m) ((bytes 4 0 ++ (bytes 2 1 ++ bytes 2 version)) ++ bytes 4 n) (replicate 492 0 ++ C) 12 4 m (head-is ∙ from-fourth (bytes 4 0) (bytes 2 1) (bytes 2 version) (bytes 4 n) (bytes 4 m ++ (replicate 492 0 ++ C)))
-      (omega (arith, length-append (bytes 4 0 ++ (bytes 2 1 ++ bytes 2 version)) (bytes 4 n), l₈, length-bytes 4 n)) (omega arith)
+      number (headOf F n m) ((bytes 4 0 ++ (bytes 2 1 ++ bytes 2 (F .version))) ++ bytes 4 n) (headRest F ++ C) 12 4 m (head-is ∙ from-fourth (bytes 4 0) (bytes 2 1) (bytes 2 (F .version)) (bytes 4 n) (bytes 4 m ++ (headRest F ++ C)))
+      (omega (arith, length-append (bytes 4 0 ++ (bytes 2 1 ++ bytes 2 (F .version))) (bytes 4 n), l₈, length-bytes 4 n)) (omega arith)
 
-  pub head-zeros : part (headOf M version n m) 16 492 ≡ replicate 492 0
+  pub head-rest : part (headOf F n m) 16 492 ≡ headRest F
   unfolding headOf
-  head-zeros =
-      piece (headOf M version n m) (headFront version n m) (replicate 492 0) C 16 492 (append-assoc (headFront version n m) (replicate 492 0) C) (length-headFront version n m) (length-replicate {A = ℕ} 492 0)
+  head-rest = piece (headOf F n m) (headFront F n m) (headRest F) C 16 492 (append-assoc (headFront F n m) (headRest F) C) (length-headFront F n m) (length-rest F (fit .room))
 
-  pub head-sound : inLimits n ≡ true → headSound version (headOf M version n m) ≡ true
+  pub head-sound : inLimits n ≡ true → headSound F (headOf F n m) ≡ true
   head-sound h =
-      head-by version (headOf M version n m) (length-head M version n m)
+      head-by F (headOf F n m) (length-head F n m (fit .room))
       ∙ both-true _ _ (eq-eqb _ _ head-number)
       (both-true _ _ (eq-eqb _ _ head-kind)
-      (both-true _ _ (eq-eqb _ _ head-version) (both-true _ _ (ap inLimits head-leaves ∙ h) (ap allZero head-zeros ∙ zeros-zero 492))))
+      (both-true _ _ (eq-eqb _ _ head-version) (both-true _ _ (ap inLimits head-leaves ∙ h) (ap (λ (x : List ℕ). same x (headRest F)) head-rest ∙ same-self (headRest F)))))
 
-  pub head-right : 1 < M → M ≤ 65536 → checkRight M (headOf M version n m) ≡ true
+  pub head-right : checkRight (F .modulus) (headOf F n m) ≡ true
   unfolding headOf
-  head-right a b =
-      sealed-right M a b (headFront version n m ++ replicate 492 0)
-      (omega (arith, length-append (headFront version n m) (replicate 492 0), length-headFront version n m, length-replicate {A = ℕ} 492 0))
+  head-right = sealed-right (F .modulus) (fit .some) (fit .most) (headFront F n m ++ headRest F) (length-headed F n m (fit .room))
 
 -- records in their bytes
 pub record-part : (rs : List Record) → Sized rs → (a c i : ℕ) → a + c ≤ length rs → i < c → part (recordsBytes rs a c) (68 * i) 68 ≡ recordBytes (getD rs (a + i) none)
@@ -125,7 +123,7 @@ module _ (M j : ℕ) (rs : List Record) (s : Sized rs) (a c : ℕ) (h : a + c �
   lb = length-block M j rs a c s hc h
 
   block-is : blockOf M j rs a c ≡ bytes 4 j ++ (bytes 2 2 ++ (bytes 2 c ++ (R ++ (Z ++ D))))
-  unfolding blockOf
+  unfolding blockWith
   block-is = block-flat (bytes 4 j) (bytes 2 2) (bytes 2 c) R Z D
 
   pub block-number : numberOf (blockOf M j rs a c) ≡ j
@@ -158,7 +156,7 @@ module _ (M j : ℕ) (rs : List Record) (s : Sized rs) (a c : ℕ) (h : a + c �
       ∙ both-true _ _ (eq-eqb _ _ block-number) (both-true _ _ (eq-eqb _ _ block-kind) unused)
 
   pub block-right : 1 < M → M ≤ 65536 → checkRight M (blockOf M j rs a c) ≡ true
-  unfolding blockOf
+  unfolding blockWith
   block-right x y = sealed-right M x y ((blockFront j c ++ R) ++ Z) (length-payload j c R hc lR)
 
   pub block-record : (i : ℕ) → i < c → getD rs (a + i) none .leaf < 4294967296 → recordIn (blockOf M j rs a c) i ≡ getD rs (a + i) none
@@ -193,18 +191,18 @@ blocks-at M rs s (suc J) j h l =
     (eq-or-lt-of-le (le-of-suc-le-suc l))
 
 -- records that are good where others are the same
-pub good-same : (n : ℕ) (f g : ℕ → Record) (p : ℕ) → ((q : ℕ) → q ≤ p → f q ≡ g q) → goodRecord n f p ≡ goodRecord n g p
+pub good-same : (n : ℕ) (f g : ℕ → Record) (p : ℕ) → ((q : ℕ) → q ≤ p → f q ≡ g q) → goodRecord n 0 f p ≡ goodRecord n 0 g p
 unfolding goodRecord lowest
 good-same n f g zero e = rw (e zero (omega arith))
 good-same n f g (suc p) e = rw (e p (omega arith), e (suc p) (omega arith))
 
 -- what a good record says
-module _ (n : ℕ) (f : ℕ → Record) (p : ℕ) (g : goodRecord n f p ≡ true) where
-  parts : both (leb (lowest f p) (f p .leaf)) (both (ltb (f p .leaf) n) (no (allZero (f p .content)))) ≡ true
+module _ (n : ℕ) (f : ℕ → Record) (p : ℕ) (g : goodRecord n 0 f p ≡ true) where
+  parts : both (leb (lowest 0 f p) (f p .leaf)) (both (ltb (f p .leaf) n) (no (allZero (f p .content)))) ≡ true
   unfolding goodRecord goodAbove
   parts = g
 
-  pub leaf-above : lowest f p ≤ f p .leaf
+  pub leaf-above : lowest 0 f p ≤ f p .leaf
   leaf-above = leb-true _ _ (both-left _ _ parts)
 
   pub leaf-below : f p .leaf < n
@@ -224,7 +222,7 @@ one-more : (j : ℕ) → 1 + j ≡ suc j
 one-more j = omega arith
 
 -- an encoding's blocks, its count and its records
-module _ (M version n : ℕ) (rs : List Record) (h₁ : 1 < M) (h₂ : M ≤ 65536) (hv : version < 65536) (hn : inLimits n ≡ true) (G : Good n rs) (few : length rs ≤ n) where
+module _ (F : Form) (fit : Fit F) (n : ℕ) (rs : List Record) (hn : inLimits n ≡ true) (G : Good n rs) (few : length rs ≤ n) where
   abbrev m : ℕ
   m = length rs
 
@@ -232,26 +230,26 @@ module _ (M version n : ℕ) (rs : List Record) (h₁ : 1 < M) (h₂ : M ≤ 655
   J = blocksFor (length rs)
 
   abbrev image : List ℕ
-  image = encode M version n rs
+  image = encode F n rs
 
   most : n ≤ 262144
   most = inLimits-most n hn
 
   long : length image ≡ 512 * (1 + J)
-  long = length-encode M version n rs (G .sized)
+  long = length-encode F n rs (fit .room) (G .sized)
 
   whole : wholeBlocks image ≡ 1 + J
   whole = omega (arith, long)
 
-  pub first-block : imageBlock image 0 ≡ headOf M version n m
+  pub first-block : imageBlock image 0 ≡ headOf F n m
   unfolding encode
-  first-block = piece image [] (headOf M version n m) (recordBlocks M rs J) 0 512 refl refl (length-head M version n m)
+  first-block = piece image [] (headOf F n m) (recordBlocks (F .modulus) rs J) 0 512 refl refl (length-head F n m (fit .room))
 
-  pub later-block : (j : ℕ) → j < J → imageBlock image (suc j) ≡ blockOf M (suc j) rs (7 * j) (next7 (m - 7 * j))
+  pub later-block : (j : ℕ) → j < J → imageBlock image (suc j) ≡ blockOf (F .modulus) (suc j) rs (7 * j) (next7 (m - 7 * j))
   unfolding encode
   later-block j l =
       let e : 512 * suc j ≡ 512 + 512 * j = omega arith in
-      rw e (part-right (headOf M version n m) (recordBlocks M rs J) 512 (512 * j) 512 (length-head M version n m) ∙ blocks-at M rs (G .sized) J j (omega arith) l)
+      rw e (part-right (headOf F n m) (recordBlocks (F .modulus) rs J) 512 (512 * j) 512 (length-head F n m (fit .room)) ∙ blocks-at (F .modulus) rs (G .sized) J j (omega arith) l)
 
   module _ (j : ℕ) (l : j < J) where
     abbrev c : ℕ
@@ -270,28 +268,28 @@ module _ (M version n : ℕ) (rs : List Record) (h₁ : 1 < M) (h₂ : M ≤ 655
         count-full last c t ∙ eq-eqb c 7 (next-full (m - 7 * j) (omega arith)))
         (true-or-false last)
 
-    later-sound : soundAt version image (suc j) ≡ true
+    later-sound : soundAt F image (suc j) ≡ true
     later-sound =
-        sound-block version image (suc j) (λ e. absurd (omega arith))
+        sound-block F image (suc j) (λ e. absurd (omega arith))
         ∙ ap (blockSound (eqb (suc j + 1) (wholeBlocks image)) (suc j)) (later-block j l)
-        ∙ block-sound M (suc j) rs (G .sized) (7 * j) c fits (next-bounds (m - 7 * j) .0) (omega (arith, most)) (eqb (suc j + 1) (wholeBlocks image)) (counted (eqb (suc j + 1) (wholeBlocks image)) refl)
+        ∙ block-sound (F .modulus) (suc j) rs (G .sized) (7 * j) c fits (next-bounds (m - 7 * j) .0) (omega (arith, most)) (eqb (suc j + 1) (wholeBlocks image)) (counted (eqb (suc j + 1) (wholeBlocks image)) refl)
 
-    later-right : checkRight M (imageBlock image (suc j)) ≡ true
-    later-right = ap (checkRight M) (later-block j l) ∙ block-right M (suc j) rs (G .sized) (7 * j) c fits (next-bounds (m - 7 * j) .0) (omega (arith, most)) h₁ h₂
+    later-right : checkRight (F .modulus) (imageBlock image (suc j)) ≡ true
+    later-right = ap (checkRight (F .modulus)) (later-block j l) ∙ block-right (F .modulus) (suc j) rs (G .sized) (7 * j) c fits (next-bounds (m - 7 * j) .0) (omega (arith, most)) (fit .some) (fit .most)
 
-  all-right : (j : ℕ) → j < wholeBlocks image → checkRight M (imageBlock image j) ≡ true
-  all-right zero l = ap (checkRight M) first-block ∙ head-right M version n m (omega (arith, most)) (omega (arith, most)) hv h₁ h₂
+  all-right : (j : ℕ) → j < wholeBlocks image → checkRight (F .modulus) (imageBlock image j) ≡ true
+  all-right zero l = ap (checkRight (F .modulus)) first-block ∙ head-right F n m (omega (arith, most)) (omega (arith, most)) fit
   all-right (suc j) l = later-right j (omega (arith, whole))
 
-  all-sound : (j : ℕ) → j < wholeBlocks image → soundAt version image j ≡ true
-  all-sound zero l = sound-head version image 0 refl ∙ ap (headSound version) first-block ∙ head-sound M version n m (omega (arith, most)) (omega (arith, most)) hv hn
+  all-sound : (j : ℕ) → j < wholeBlocks image → soundAt F image j ≡ true
+  all-sound zero l = sound-head F image 0 refl ∙ ap (headSound F) first-block ∙ head-sound F n m (omega (arith, most)) (omega (arith, most)) fit hn
   all-sound (suc j) l = later-sound j (omega (arith, whole))
 
   pub leaves-are : leavesIn image ≡ n
-  leaves-are = ap leavesOf first-block ∙ head-leaves M version n m (omega (arith, most)) (omega (arith, most)) hv
+  leaves-are = ap leavesOf first-block ∙ head-leaves F n m (omega (arith, most)) (omega (arith, most)) fit
 
   pub recorded-are : recordedIn image ≡ m
-  recorded-are = ap recordedOf first-block ∙ head-recorded M version n m (omega (arith, most)) (omega (arith, most)) hv
+  recorded-are = ap recordedOf first-block ∙ head-recorded F n m (omega (arith, most)) (omega (arith, most)) fit
 
   count-is : recordCount image ≡ m
   count-is =
@@ -301,13 +299,13 @@ module _ (M version n : ℕ) (rs : List Record) (h₁ : 1 < M) (h₂ : M ≤ 655
       let j : ℕ = J - 1 in
       let e : wholeBlocks image - 1 ≡ suc j = omega (arith, whole) in
       let f : countOf (imageBlock image (suc j)) ≡ next7 (m - 7 * j) =
-      ap countOf (later-block j (omega arith)) ∙ block-count M (suc j) rs (G .sized) (7 * j) (next7 (m - 7 * j)) (fits j (omega arith)) (next-bounds (m - 7 * j) .0) (omega (arith, most)) in
+      ap countOf (later-block j (omega arith)) ∙ block-count (F .modulus) (suc j) rs (G .sized) (7 * j) (next7 (m - 7 * j)) (fits j (omega arith)) (next-bounds (m - 7 * j) .0) (omega (arith, most)) in
       let g : next7 (m - 7 * j) ≡ m - 7 * j = next-few (m - 7 * j) (omega arith) in
       records-by image (omega (arith, whole)) ∙ rw (e, f, g) (omega (arith, whole)))
       (lt-or-ge J 1)
 
-  good-at : (p : ℕ) → p < m → goodRecord n (listed rs) p ≡ true
-  good-at p l = all-at (goodRecord n (listed rs)) m (G .each) p l
+  good-at : (p : ℕ) → p < m → goodRecord n 0 (listed rs) p ≡ true
+  good-at p l = all-at (goodRecord n 0 (listed rs)) m (G .each) p l
 
   pub record-is : (p : ℕ) → p < m → recordAt image p ≡ listed rs p
   record-is p l =
@@ -316,18 +314,18 @@ module _ (M version n : ℕ) (rs : List Record) (h₁ : 1 < M) (h₂ : M ≤ 655
       let b : getD rs (7 * j + p % 7) none .leaf < 4294967296 = rw e (omega (arith, most, leaf-below n (listed rs) p (good-at p l))) in
       let k : p % 7 < next7 (m - 7 * j) = under7 (m - 7 * j) (p % 7) (omega arith) (omega arith) in
       ap (λ (x : List ℕ). recordIn x (p % 7)) (ap (imageBlock image) (one-more j) ∙ later-block j (omega arith))
-      ∙ block-record M (suc j) rs (G .sized) (7 * j) (next7 (m - 7 * j)) (fits j (omega arith)) (next-bounds (m - 7 * j) .0) (omega (arith, most)) (p % 7) k b
+      ∙ block-record (F .modulus) (suc j) rs (G .sized) (7 * j) (next7 (m - 7 * j)) (fits j (omega arith)) (next-bounds (m - 7 * j) .0) (omega (arith, most)) (p % 7) k b
       ∙ ap (listed rs) e
 
-  pub encoding-accepted : imageTest M version image ≡ 0
+  pub encoding-accepted : testBy F image ≡ 0
   unfolding checksRight
   encoding-accepted =
-      is-accepted M version image (record {
+      is-accepted F image (record {
         some = omega (arith, long);
         whole = omega (arith, long);
-        checks = all-is (λ j. checkRight M (imageBlock image j)) (wholeBlocks image) all-right;
-        sound = all-is (soundAt version image) (wholeBlocks image) all-sound;
+        checks = all-is (λ j. checkRight (F .modulus) (imageBlock image j)) (wholeBlocks image) all-right;
+        sound = all-is (soundAt F image) (wholeBlocks image) all-sound;
         count = recorded-are ∙ sym count-is;
-        good = rw (leaves-are, count-is) (all-is (goodRecord n (recordAt image)) m (λ p l.
+        good = rw (leaves-are, count-is) (all-is (goodRecord n 0 (recordAt image)) m (λ p l.
             good-same n (recordAt image) (listed rs) p (λ q k. record-is q (omega arith)) ∙ good-at p l));
       })

@@ -2,24 +2,21 @@
 use mathlib.Core.Path.{_≡_, refl, sym, _∙_}
 use mathlib.Core.Bool.{Bool, true, false}
 use mathlib.Core.List.{List}
-use Prim.Native.Nat.{ℕ, _+_, _*_, _≤_, _<_}
+use Prim.Native.Nat.{ℕ, _+_, _≤_, _<_}
 use native.Mathlib.Omega.{arith}
-use borrow.Author.Tests.{le-leb, lt-leb, eq-eqb, le-ltb, lt-ltb}
-use lib.Dec.{leb}
+use borrow.Author.Tests.{le-leb, lt-leb}
 use lib.ListN.{length}
 use Rattle.geometry.specs.TagMemory.{groups}
 use Rattle.laws.specs.Refusal.{refusal, unless}
-use Rattle.laws.specs.Choice.{pick, both}
 use Rattle.laws.proofs.Choice.{both-true, both-false-left, both-false-right}
-use Rattle.geometry.specs.TagMemory.{inLimits, memoryLength}
+use Rattle.geometry.specs.TagMemory.{inLimits}
 use Rattle.geometry.proofs.Lengths.{length-1, length-512, length-513, length-most}
 use Rattle.geometry.proofs.Limits.{inLimits-is, inLimits-none, inLimits-over}
-use Rattle.memory.specs.PlainReading.{plainReading}
 use Rattle.memory.proofs.Reading as reading
 use Rattle.tracker.specs.Answer.{ok, no}
 use Rattle.rules.specs.State.{lengthsRight, begun}
 use Rattle.rules.specs.Whole.{limits}
-use Rattle.rules.specs.Calls.{Out, fresh, issue}
+use Rattle.rules.specs.Calls.{fresh, issue}
 use Rattle.rules.proofs.Begun.{begun-whole}
 use Rattle.rules.proofs.Calls.{lengths-right, issue-accepted, issue-refused}
 use Rattle.archive.proofs.Facts.{head-check, blocks-0, blocks-7, blocks-8}

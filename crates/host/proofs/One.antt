@@ -9,5 +9,5 @@ use Rattle.image.specs.Test.{imageTest}
 pub tag-plain-read-one : (n : ℕ) (m : List ℕ) (g : ℕ) {r s : ℕ} → r ≡ plainReading n m g → s ≡ plainReading n m g → r ≡ s
 tag-plain-read-one = plain-reading-one
 
-pub tag-image-test-one : (image : List ℕ) {r s : ℕ} → r ≡ imageTest 65535 1 image → s ≡ imageTest 65535 1 image → r ≡ s
+pub tag-image-test-one : (image : List ℕ) {r s : ℕ} → r ≡ imageTest image → s ≡ imageTest image → r ≡ s
 tag-image-test-one image p q = p ∙ sym q

@@ -14,7 +14,7 @@ pub extern "C" fn tag_plain_read(n: u64, memory: &[u8], group: u64) -> u64
 // The image test: 0, or 10 or 11.
 #[no_mangle]
 pub extern "C" fn tag_image_test(image: &[u8]) -> u64
-    ensures { λ r. ⌜ r ≡ imageTest 65535 1 (now (image .entry)) ⌝ }
+    ensures { λ r. ⌜ r ≡ imageTest (now (image .entry)) ⌝ }
 {
     image::image_test(image)
 }

@@ -1,4 +1,4 @@
-pub mod Parts
+pub mod Rows
 pub mod Sound
 pub mod Rules
 pub mod Records

@@ -6,9 +6,9 @@ use Prim.Native.Nat.{ℕ}
 use lib.ListN.{replicate}
 use Rattle.laws.specs.Bytes.{putW}
 use Rattle.geometry.proofs.One.{one}
-use Rattle.image.specs.Test.{headSound, countRight, blockSound, leavesIn, recordedIn, imageTest}
+use Rattle.image.specs.Test.{formIn, headSound, countRight, blockSound, recordGood, leavesIn, recordedIn, imageTest}
 
-pub head-sound-one : (block : List ℕ) {r s : Bool} → r ≡ headSound 1 block → s ≡ headSound 1 block → r ≡ s
+pub head-sound-one : (block : List ℕ) {r s : Bool} → r ≡ headSound (formIn block) block → s ≡ headSound (formIn block) block → r ≡ s
 head-sound-one block = one
 
 pub count-right-one : (last : Bool) (c : ℕ) {r s : Bool} → r ≡ countRight last c → s ≡ countRight last c → r ≡ s
@@ -17,13 +17,16 @@ count-right-one last c = one
 pub block-sound-one : (last : Bool) (j : ℕ) (block : List ℕ) {r s : Bool} → r ≡ blockSound last j block → s ≡ blockSound last j block → r ≡ s
 block-sound-one last j block = one
 
+pub record-good-one : (n low : ℕ) (block : List ℕ) (i : ℕ) {r s : Bool} → r ≡ recordGood n low block i → s ≡ recordGood n low block i → r ≡ s
+record-good-one n low block i = one
+
 pub leaves-in-one : (image : List ℕ) {r s : ℕ} → r ≡ leavesIn image → s ≡ leavesIn image → r ≡ s
 leaves-in-one image = one
 
 pub recorded-in-one : (image : List ℕ) {r s : ℕ} → r ≡ recordedIn image → s ≡ recordedIn image → r ≡ s
 recorded-in-one image = one
 
-pub image-test-one : (image : List ℕ) {r s : ℕ} → r ≡ imageTest 65535 1 image → s ≡ imageTest 65535 1 image → r ≡ s
+pub image-test-one : (image : List ℕ) {r s : ℕ} → r ≡ imageTest image → s ≡ imageTest image → r ≡ s
 image-test-one image = one
 
 pub clear-one : (row : List ℕ) (at count : ℕ) {r s : List ℕ} → r ≡ putW count row at (replicate count 0) → s ≡ putW count row at (replicate count 0) → r ≡ s

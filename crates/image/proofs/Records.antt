@@ -2,23 +2,26 @@
 use mathlib.Core.Path.{_≡_, refl, ap, sym, _∙_}
 use mathlib.Core.List.{List, [], _∷_, _++_, append-nil}
 use mathlib.Core.Logic.{_⊎_, inl, inr, ⊎-elim}
-use Prim.Native.Nat.{ℕ, zero, suc, _+_, _*_, _-_, _≤_, _<_}
+use Prim.Native.Nat.{ℕ, zero, suc, _+_, _*_, _/_, _-_, _≤_, _<_}
 use native.Mathlib.Nat.{eq-or-lt-of-le, le-of-suc-le-suc, not-suc-le-zero}
 use native.Mathlib.Numerals.{add-one}
 use native.Mathlib.Omega.{arith}
 use lib.ListN.{length, getD, replicate, length-append, length-replicate, List·getD-append}
 use lib.Seq.{getD-at}
-use lib.Dec.{eqb}
+use lib.Dec.{eqb, leb}
 use borrow.Author.Tests.{eq-eqb, ne-eqb, eqb-true, eqb-false, le-leb, lt-leb}
-use Rattle.laws.specs.Bytes.{bytes}
-use Rattle.laws.proofs.Choice.{true-or-false}
+use Rattle.laws.specs.Bytes.{part, bytes}
+use Rattle.laws.proofs.Choice.{true-or-false, both-true, both-false-left, both-false-right}
 use Rattle.laws.proofs.Splice.{lt-or-ge, length-part′}
 use Rattle.laws.proofs.Value.{length-bytes}
+use Rattle.geometry.specs.TagMemory.{mapPlace, mapBitOf}
+use Rattle.geometry.proofs.Places.{mapPlace-is}
+use Rattle.block.proofs.BitsOf.{bitAt-zero}
 use Rattle.memory.specs.PlainReading.{leafBit}
 use Rattle.sums.specs.Check.{checkOf}
 use Rattle.sums.proofs.Right.{length-check}
 use Rattle.image.specs.Calls.{recordsTo}
-use Rattle.image.specs.Encode.{Record, none, recordBytes, recordsBytes, headFront, headOf, blockFront, blockOf, next7, recordBlocks, blocksFor, encode, recordOf, recordsBelow, recordsOf}
+use Rattle.image.specs.Encode.{Form, Record, none, Sized, recordBytes, recordsBytes, headFront, headRest, headOf, headed, blockFront, blockWith, closed, blockOf, next7, recordBlocks, blocksFor, encode, recordOf, recordsBelow, recordsOf}
 
 -- one leaf more
 module _ (n : ℕ) (mem : List ℕ) where
@@ -33,6 +36,10 @@ module _ (n : ℕ) (mem : List ℕ) where
   pub below-none : recordsBelow n mem 0 ≡ []
   unfolding recordsBelow
   below-none = refl
+
+  unmarked : (k : ℕ) → getD mem (mapPlace n k) 0 ≡ 0 → leafBit n mem k ≡ 0
+  unfolding leafBit
+  unmarked k z = bitAt-zero mem (mapPlace n k) (mapBitOf k) z
 
   -- either way, as `suc`
   below-either : (k : ℕ) → ((leafBit n mem k ≡ 1) × (recordsBelow n mem (suc k) ≡ recordsBelow n mem k ++ (recordOf mem k ∷ []))) ⊎ (recordsBelow n mem (suc k) ≡ recordsBelow n mem k)
@@ -83,6 +90,19 @@ module _ (n : ℕ) (mem : List ℕ) where
       (below-either j))
       (eq-or-lt-of-le (le-of-suc-le-suc h))
 
+  -- the leaves of a map byte that is zero are passed over
+  pub below-byte : (j i : ℕ) → getD mem (mapPlace n j) 0 ≡ 0 → j ≤ i → i ≤ j / 8 * 8 + 8 → recordsBelow n mem i ≡ recordsBelow n mem j
+  below-byte j zero z a b = let e : j ≡ 0 = omega arith in rw e refl
+  below-byte j (suc i) z a b =
+      ⊎-elim
+      (λ (e : j ≡ suc i). rw e refl)
+      (λ (l : j < suc i).
+      let q : i / 8 ≡ j / 8 = omega arith in
+      let p : mapPlace n i ≡ mapPlace n j = omega (arith, mapPlace-is n i, mapPlace-is n j) in
+      let o : leafBit n mem i ≡ 0 = unmarked i (ap (λ (x : ℕ). getD mem x 0) p ∙ z) in
+      ap (recordsBelow n mem) (sym (add-one i)) ∙ below-skip i (λ b. absurd (omega arith)) ∙ below-byte j i z (omega arith) (omega arith))
+      (eq-or-lt-of-le a)
+
 -- record p of the leaves below leaf j is that of a leaf
 pub record Marked (n : ℕ) (mem : List ℕ) (j p : ℕ) : Type 0 where
   pub leaf : ℕ
@@ -107,10 +127,6 @@ marked n mem (suc j) p h =
 
 pub marked-is : (n : ℕ) (mem : List ℕ) (j p : ℕ) (m : Marked n mem j p) → getD (recordsBelow n mem j) p none ≡ recordOf mem (m .leaf)
 marked-is n mem j p m = ap (λ (x : ℕ). getD (recordsBelow n mem j) x none) (sym (m .place)) ∙ below-at n mem j (m .leaf) (m .below) (m .bit)
-
--- every record of a list has 64 bytes
-unfoldable pub Sized : List Record → Type 0
-Sized rs = (p : ℕ) → p < length rs → length (getD rs p none .content) ≡ 64
 
 pub records-sized : (n : ℕ) (mem : List ℕ) → 64 * n ≤ length mem → Sized (recordsOf n mem)
 unfolding Sized
@@ -152,32 +168,32 @@ next-bounds left =
     (lt-or-ge left 8)
 
 -- lengths of blocks and images
-pub length-headFront : (version n m : ℕ) → length (headFront version n m) ≡ 16
-length-headFront version n m =
+pub length-headFront : (F : Form) (n m : ℕ) → length (headFront F n m) ≡ 16
+length-headFront F n m =
     omega (
       arith,
-      length-append (bytes 4 0) (bytes 2 1 ++ (bytes 2 version ++ (bytes 4 n ++ bytes 4 m))),
-      length-append (bytes 2 1) (bytes 2 version ++ (bytes 4 n ++ bytes 4 m)),
-      length-append (bytes 2 version) (bytes 4 n ++ bytes 4 m),
+      length-append (bytes 4 0) (bytes 2 1 ++ (bytes 2 (F .version) ++ (bytes 4 n ++ bytes 4 m))),
+      length-append (bytes 2 1) (bytes 2 (F .version) ++ (bytes 4 n ++ bytes 4 m)),
+      length-append (bytes 2 (F .version)) (bytes 4 n ++ bytes 4 m),
       length-append (bytes 4 n) (bytes 4 m),
       length-bytes 4 0,
       length-bytes 2 1,
-      length-bytes 2 version,
+      length-bytes 2 (F .version),
       length-bytes 4 n,
       length-bytes 4 m,
     )
 
-pub length-head : (M version n m : ℕ) → length (headOf M version n m) ≡ 512
+pub length-rest : (F : Form) → length (F .after) ≤ 492 → length (headRest F) ≡ 492
+length-rest F h = omega (arith, length-append (F .after) (replicate (492 - length (F .after)) 0), length-replicate {A = ℕ} (492 - length (F .after)) 0)
+
+pub length-headed : (F : Form) (n m : ℕ) → length (F .after) ≤ 492 → length (headFront F n m ++ headRest F) ≡ 508
+length-headed F n m h = omega (arith, length-append (headFront F n m) (headRest F), length-headFront F n m, length-rest F h)
+
+pub length-head : (F : Form) (n m : ℕ) → length (F .after) ≤ 492 → length (headOf F n m) ≡ 512
 unfolding headOf
-length-head M version n m =
-    omega (
-      arith,
-      length-append (headFront version n m ++ replicate 492 0) (checkOf M (headFront version n m ++ replicate 492 0)),
-      length-append (headFront version n m) (replicate 492 0),
-      length-headFront version n m,
-      length-replicate {A = ℕ} 492 0,
-      length-check M (headFront version n m ++ replicate 492 0),
-    )
+length-head F n m h =
+    let P : List ℕ = headFront F n m ++ headRest F in
+    omega (arith, length-append P (checkOf (F .modulus) P), length-headed F n m h, length-check (F .modulus) P)
 
 pub length-blockFront : (j c : ℕ) → length (blockFront j c) ≡ 8
 length-blockFront j c =
@@ -187,11 +203,14 @@ pub length-payload : (j c : ℕ) (R : List ℕ) → c ≤ 7 → length R ≡ 68 
 length-payload j c R h e =
     omega (arith, length-append (blockFront j c ++ R) (replicate (500 - 68 * c) 0), length-append (blockFront j c) R, length-blockFront j c, length-replicate {A = ℕ} (500 - 68 * c) 0)
 
+pub length-with : (M j c : ℕ) (R : List ℕ) → c ≤ 7 → length R ≡ 68 * c → length (blockWith M j c R) ≡ 512
+unfolding blockWith
+length-with M j c R h e =
+    let P : List ℕ = (blockFront j c ++ R) ++ replicate (500 - 68 * c) 0 in
+    omega (arith, length-append P (checkOf M P), length-payload j c R h e, length-check M P)
+
 pub length-block : (M j : ℕ) (rs : List Record) (a c : ℕ) → Sized rs → c ≤ 7 → a + c ≤ length rs → length (blockOf M j rs a c) ≡ 512
-unfolding blockOf
-length-block M j rs a c s h g =
-    let P : List ℕ = (blockFront j c ++ recordsBytes rs a c) ++ replicate (500 - 68 * c) 0 in
-    omega (arith, length-append P (checkOf M P), length-payload j c (recordsBytes rs a c) h (length-records rs s a c g), length-check M P)
+length-block M j rs a c s h g = length-with M j c (recordsBytes rs a c) h (length-records rs s a c g)
 
 pub length-blocks : (M : ℕ) (rs : List Record) → Sized rs → (j : ℕ) → 7 * j ≤ length rs + 6 → length (recordBlocks M rs j) ≡ 512 * j
 unfolding recordBlocks
@@ -205,15 +224,42 @@ length-blocks M rs s (suc j) h =
       length-block M (suc j) rs (7 * j) c s (next-bounds (length rs - 7 * j) .0) (omega (arith, next-bounds (length rs - 7 * j) .1)),
     )
 
-pub length-encode : (M version n : ℕ) (rs : List Record) → Sized rs → length (encode M version n rs) ≡ 512 * (1 + blocksFor (length rs))
+pub length-encode : (F : Form) (n : ℕ) (rs : List Record) → length (F .after) ≤ 492 → Sized rs → length (encode F n rs) ≡ 512 * (1 + blocksFor (length rs))
 unfolding encode
-length-encode M version n rs s =
+length-encode F n rs h s =
     omega (
       arith,
-      length-append (headOf M version n (length rs)) (recordBlocks M rs (blocksFor (length rs))),
-      length-head M version n (length rs),
-      length-blocks M rs s (blocksFor (length rs)) (omega arith),
+      length-append (headOf F n (length rs)) (recordBlocks (F .modulus) rs (blocksFor (length rs))),
+      length-head F n (length rs) h,
+      length-blocks (F .modulus) rs s (blocksFor (length rs)) (omega arith),
     )
+
+-- a row closed as a block, made the head, and one that is neither
+module _ (M : ℕ) (row : List ℕ) (j c : ℕ) where
+  pub closed-is : length row ≡ 512 → c ≤ 7 → closed M row j c ≡ blockWith M j c (part row 8 (68 * c))
+  unfolding closed
+  closed-is h l = rw (both-true _ _ (eq-eqb _ _ h) (le-leb c 7 l))
+
+  pub closed-short : (length row ≡ 512 → ⊥) → closed M row j c ≡ row
+  unfolding closed
+  closed-short h = rw (both-false-left (eqb (length row) 512) (leb c 7) (ne-eqb _ _ h))
+
+  pub closed-full : 7 < c → closed M row j c ≡ row
+  unfolding closed
+  closed-full l = rw (both-false-right (eqb (length row) 512) (leb c 7) (lt-leb c 7 l))
+
+-- closed over the records of a list, it is their block
+pub closed-records : (M : ℕ) (row : List ℕ) (j : ℕ) (rs : List Record) (a c : ℕ) → length row ≡ 512 → c ≤ 7 → part row 8 (68 * c) ≡ recordsBytes rs a c → closed M row j c ≡ blockOf M j rs a c
+closed-records M row j rs a c h l e = closed-is M row j c h l ∙ ap (blockWith M j c) e
+
+module _ (F : Form) (row : List ℕ) (n m : ℕ) where
+  pub headed-is : length row ≡ 512 → headed F row n m ≡ headOf F n m
+  unfolding headed
+  headed-is h = rw (eq-eqb _ _ h)
+
+  pub headed-short : (length row ≡ 512 → ⊥) → headed F row n m ≡ row
+  unfolding headed
+  headed-short h = rw (ne-eqb _ _ h)
 
 -- the first records by a rule
 pub length-recordsTo : (f : ℕ → Record) (m : ℕ) → length (recordsTo f m) ≡ m

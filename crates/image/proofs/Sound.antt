@@ -1,5 +1,5 @@
 -- Laws of sound blocks and counts: the ways out of each test, and what a test that holds says.
-use mathlib.Core.Path.{_≡_, sym, _∙_}
+use mathlib.Core.Path.{_≡_, refl, ap, sym, _∙_}
 use mathlib.Core.List.{List}
 use mathlib.Core.Bool.{Bool, true, false}
 use Prim.Native.Nat.{ℕ, _+_, _*_, _-_, _≤_, _<_}
@@ -8,17 +8,16 @@ use lib.ListN.{length}
 use lib.Dec.{eqb, leb}
 use borrow.Author.Tests.{eq-eqb, ne-eqb, eqb-true, leb-true, le-leb, lt-leb}
 use mathlib.Core.Logic.{⊎-elim}
+use Rattle.laws.specs.Bytes.{part}
 use Rattle.laws.specs.Choice.{both}
 use Rattle.laws.specs.Scan.{all}
 use Rattle.laws.proofs.Scan.{all-at}
-use Rattle.laws.proofs.Splice.{lt-or-ge}
-use Rattle.laws.proofs.Choice.{both-left, both-right, both-false-left, both-false-right}
+use Rattle.laws.proofs.Splice.{lt-or-ge, length-part′}
+use Rattle.laws.proofs.Choice.{both-when, both-left, both-right, both-false-left, both-false-right}
 use Rattle.geometry.specs.TagMemory.{inLimits}
-use Rattle.image.specs.Test.{wholeBlocks, imageBlock, numberOf, kindOf, versionOf, leavesOf, countOf, unusedZero, headSound, countRight, blockSound, soundAt, recordCount}
-
-pub both-when : (a b : Bool) → a ≡ true → both a b ≡ b
-unfolding both
-both-when a b e = rw e
+use Rattle.image.specs.Encode.{Form, version1, headRest}
+use Rattle.image.specs.Test.{same, wholeBlocks, imageBlock, numberOf, kindOf, versionOf, leavesOf, countOf, unusedZero, headSound, countRight, blockSound, soundAt, recordCount}
+use Rattle.image.proofs.Rows.{same-zeros}
 
 -- counts
 pub count-last : (last : Bool) (c : ℕ) → last ≡ true → countRight last c ≡ both (leb 1 c) (leb c 7)
@@ -35,15 +34,27 @@ count-bounds true c h = (leb-true 1 c (both-left (leb 1 c) (leb c 7) h), leb-tru
 count-bounds false c h = let e : c ≡ 7 = eqb-true c 7 h in (omega arith, omega arith)
 
 -- the head
-module _ (version : ℕ) (b : List ℕ) where
-  pub head-short : (length b ≡ 512 → ⊥) → headSound version b ≡ false
+module _ (F : Form) (b : List ℕ) where
+  pub head-short : (length b ≡ 512 → ⊥) → headSound F b ≡ false
   unfolding headSound
   head-short h = both-false-left _ _ (ne-eqb _ _ h)
 
   pub head-by : length b ≡ 512
-      → headSound version b ≡ both (eqb (numberOf b) 0) (both (eqb (kindOf b) 1) (both (eqb (versionOf b) version) (both (inLimits (leavesOf b)) (unusedZero b 16))))
+      → headSound F b ≡ both (eqb (numberOf b) 0) (both (eqb (kindOf b) 1) (both (eqb (versionOf b) (F .version)) (both (inLimits (leavesOf b)) (same (part b 16 492) (headRest F)))))
   unfolding headSound
   head-by h = both-when _ _ (eq-eqb _ _ h)
+
+-- version 1
+pub modulus-1 : version1 .modulus ≡ 65535
+unfolding version1
+modulus-1 = refl
+
+pub head-by-1 : (b : List ℕ) → length b ≡ 512
+    → headSound version1 b ≡ both (eqb (numberOf b) 0) (both (eqb (kindOf b) 1) (both (eqb (versionOf b) 1) (both (inLimits (leavesOf b)) (unusedZero b 16))))
+unfolding version1
+head-by-1 b h =
+    let z : same (part b 16 492) (headRest version1) ≡ unusedZero b 16 = same-zeros (part b 16 492) 492 (length-part′ b 16 492 (omega arith)) in
+    head-by version1 b h ∙ ap (λ (x : Bool). both (eqb (numberOf b) 0) (both (eqb (kindOf b) 1) (both (eqb (versionOf b) 1) (both (inLimits (leavesOf b)) x)))) z
 
 -- a record block
 module _ (last : Bool) (j : ℕ) (b : List ℕ) where
@@ -61,14 +72,14 @@ module _ (last : Bool) (j : ℕ) (b : List ℕ) where
   block-by h g = rw (both-when _ _ (eq-eqb (length b) 512 h), both-when _ (unusedZero b (8 + 68 * countOf b)) g)
 
 -- block j of an image
-pub sound-head : (version : ℕ) (image : List ℕ) (j : ℕ) → j ≡ 0 → soundAt version image j ≡ headSound version (imageBlock image j)
+pub sound-head : (F : Form) (image : List ℕ) (j : ℕ) → j ≡ 0 → soundAt F image j ≡ headSound F (imageBlock image j)
 unfolding soundAt
-sound-head version image j e = rw (eq-eqb j 0 e)
+sound-head F image j e = rw (eq-eqb j 0 e)
 
-pub sound-block : (version : ℕ) (image : List ℕ) (j : ℕ) → (j ≡ 0 → ⊥)
-    → soundAt version image j ≡ blockSound (eqb (j + 1) (wholeBlocks image)) j (imageBlock image j)
+pub sound-block : (F : Form) (image : List ℕ) (j : ℕ) → (j ≡ 0 → ⊥)
+    → soundAt F image j ≡ blockSound (eqb (j + 1) (wholeBlocks image)) j (imageBlock image j)
 unfolding soundAt
-sound-block version image j h = rw (ne-eqb j 0 h)
+sound-block F image j h = rw (ne-eqb j 0 h)
 
 -- the number of records
 pub records-none : (image : List ℕ) → wholeBlocks image ≤ 1 → recordCount image ≡ 0
@@ -86,13 +97,13 @@ unfolding blockSound
 sound-count last j b h = both-left _ _ (both-right _ _ (both-right _ _ (both-right _ _ h)))
 
 -- the records of sound blocks stand in them
-pub records-fit : (version : ℕ) (image : List ℕ) → all (soundAt version image) (wholeBlocks image) ≡ true → recordCount image ≤ 7 * (wholeBlocks image - 1)
-records-fit version image h =
+pub records-fit : (F : Form) (image : List ℕ) → all (soundAt F image) (wholeBlocks image) ≡ true → recordCount image ≤ 7 * (wholeBlocks image - 1)
+records-fit F image h =
     ⊎-elim
     (λ (g : wholeBlocks image < 2). rw (records-none image (omega arith)) (omega arith))
     (λ (g : 2 ≤ wholeBlocks image).
     let j : ℕ = wholeBlocks image - 1 in
-    let s : soundAt version image j ≡ true = all-at (soundAt version image) (wholeBlocks image) h j (omega arith) in
-    let t : blockSound (eqb (j + 1) (wholeBlocks image)) j (imageBlock image j) ≡ true = sym (sound-block version image j (λ e. absurd (omega arith))) ∙ s in
+    let s : soundAt F image j ≡ true = all-at (soundAt F image) (wholeBlocks image) h j (omega arith) in
+    let t : blockSound (eqb (j + 1) (wholeBlocks image)) j (imageBlock image j) ≡ true = sym (sound-block F image j (λ e. absurd (omega arith))) ∙ s in
     rw (records-by image (omega arith)) (omega (arith, count-bounds (eqb (j + 1) (wholeBlocks image)) (countOf (imageBlock image j)) (sound-count (eqb (j + 1) (wholeBlocks image)) j (imageBlock image j) t))))
     (lt-or-ge (wholeBlocks image) 2)

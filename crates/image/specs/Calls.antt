@@ -50,7 +50,7 @@ memoryOf n rs = filled n rs (length rs)
 -- "restoring 10, 11, 2", in that order; 0 if none. `room` is the length of the lent memory.
 unfoldable pub restoringRefusal : List ℕ → ℕ → ℕ
 restoringRefusal image room =
-    pick (eqb (imageTest 65535 1 image) 0) (pick (eqb room (memoryLength (leavesIn image))) 0 2) (imageTest 65535 1 image)
+    pick (eqb (imageTest image) 0) (pick (eqb room (memoryLength (leavesIn image))) 0 2) (imageTest image)
 
 -- the lent memory after restoring; refused, it stays as it came
 unfoldable pub restored : List ℕ → List ℕ → List ℕ
@@ -58,4 +58,4 @@ restored image mem = pick (eqb (restoringRefusal image (length mem)) 0) (memoryO
 
 -- "opening a reader 10, 11": the image test names the refusal; "A refused reader has an empty image"
 unfoldable pub openedImage : List ℕ → List ℕ
-openedImage image = pick (eqb (imageTest 65535 1 image) 0) image []
+openedImage image = pick (eqb (imageTest image) 0) image []

@@ -2,7 +2,7 @@
 use mathlib.Core.List.{List}
 use mathlib.Core.Bool.{Bool}
 use Prim.Native.Nat.{ℕ, zero, suc, _+_, _*_, _/_, _%_, _-_}
-use lib.ListN.{length}
+use lib.ListN.{length, getD}
 use lib.Dec.{eqb, leb, ltb}
 use Rattle.laws.specs.Choice.{pick, both, no}
 use Rattle.laws.specs.Bytes.{part, numberAt}
@@ -10,7 +10,7 @@ use Rattle.laws.specs.Scan.{all}
 use Rattle.geometry.specs.TagMemory.{inLimits}
 use Rattle.block.specs.Block.{allZero}
 use Rattle.sums.specs.Check.{checkRight}
-use Rattle.image.specs.Encode.{Record}
+use Rattle.image.specs.Encode.{Form, version1, headRest, Record}
 
 -- "Blocks of 512 bytes": how many whole ones, and block j
 abbrev pub wholeBlocks : List ℕ → ℕ
@@ -47,11 +47,15 @@ recordIn b i = record { leaf = numberAt 4 b (8 + 68 * i); content = part b (12 +
 abbrev pub unusedZero : List ℕ → ℕ → Bool
 unusedZero b at = allZero (part b at (508 - at))
 
--- a sound head: its number, kind, version, n in its limits, "zeros after"; m apart
-unfoldable pub headSound : ℕ → List ℕ → Bool
-headSound version b =
+-- two rows have the same bytes
+unfoldable pub same : List ℕ → List ℕ → Bool
+same a b = both (eqb (length a) (length b)) (all (λ i. eqb (getD a i 0) (getD b i 0)) (length a))
+
+-- a sound head of a form: its number, kind, version, n in its limits, what the form has after them and "zeros after"; m apart
+unfoldable pub headSound : Form → List ℕ → Bool
+headSound F b =
     both (eqb (length b) 512)
-    (both (eqb (numberOf b) 0) (both (eqb (kindOf b) 1) (both (eqb (versionOf b) version) (both (inLimits (leavesOf b)) (unusedZero b 16)))))
+    (both (eqb (numberOf b) 0) (both (eqb (kindOf b) 1) (both (eqb (versionOf b) (F .version)) (both (inLimits (leavesOf b)) (same (part b 16 492) (headRest F))))))
 
 -- "every block but the last has 7, the last 1 to 7"
 unfoldable pub countRight : Bool → ℕ → Bool
@@ -64,9 +68,9 @@ blockSound last j b =
     (both (eqb (numberOf b) j) (both (eqb (kindOf b) 2) (both (countRight last (countOf b)) (unusedZero b (8 + 68 * countOf b)))))
 
 -- block j of an image is sound
-unfoldable pub soundAt : ℕ → List ℕ → ℕ → Bool
-soundAt version image j =
-    pick (eqb j 0) (headSound version (imageBlock image j)) (blockSound (eqb (j + 1) (wholeBlocks image)) j (imageBlock image j))
+unfoldable pub soundAt : Form → List ℕ → ℕ → Bool
+soundAt F image j =
+    pick (eqb j 0) (headSound F (imageBlock image j)) (blockSound (eqb (j + 1) (wholeBlocks image)) j (imageBlock image j))
 
 -- n and m in the head of an image
 abbrev pub leavesIn : List ℕ → ℕ
@@ -87,27 +91,43 @@ recordAt image p = recordIn (imageBlock image (1 + p / 7)) (p % 7)
 unfoldable pub goodAbove : ℕ → ℕ → Record → Bool
 goodAbove n low r = both (leb low (r .leaf)) (both (ltb (r .leaf) n) (no (allZero (r .content))))
 
--- the leaf number after that of the record before record p
-unfoldable pub lowest : (ℕ → Record) → ℕ → ℕ
-lowest records zero = 0
-lowest records (suc p) = records p .leaf + 1
+-- the leaf number after that of the record before record p; `low` before the first
+unfoldable pub lowest : ℕ → (ℕ → Record) → ℕ → ℕ
+lowest low records zero = low
+lowest low records (suc p) = records p .leaf + 1
 
-unfoldable pub goodRecord : ℕ → (ℕ → Record) → ℕ → Bool
-goodRecord n records p = goodAbove n (lowest records p) (records p)
+-- record p of records that begin at leaf `low` is good
+unfoldable pub goodRecord : ℕ → ℕ → (ℕ → Record) → ℕ → Bool
+goodRecord n low records p = goodAbove n (lowest low records p) (records p)
+
+-- record i of a block is there and good above the leaves below `low`
+unfoldable pub recordGood : ℕ → ℕ → List ℕ → ℕ → Bool
+recordGood n low b i = both (both (eqb (length b) 512) (ltb i 7)) (goodAbove n low (recordIn b i))
 
 -- "10: image length 0 or not a multiple of 512, or a wrong check"
 unfoldable pub lengthRight : List ℕ → Bool
 lengthRight image = both (ltb 0 (length image)) (eqb (length image % 512) 0)
 
-unfoldable pub checksRight : ℕ → List ℕ → Bool
-checksRight M image = all (λ j. checkRight M (imageBlock image j)) (wholeBlocks image)
+unfoldable pub checksRight : Form → List ℕ → Bool
+checksRight F image = all (λ j. checkRight (F .modulus) (imageBlock image j)) (wholeBlocks image)
 
 -- "11: checks right, another image rule broken": the other rules, each block sound, "m is the number of records", each record good
-unfoldable pub rulesKept : ℕ → List ℕ → Bool
-rulesKept version image =
-    both (all (soundAt version image) (wholeBlocks image))
-    (both (eqb (recordedIn image) (recordCount image)) (all (goodRecord (leavesIn image) (recordAt image)) (recordCount image)))
+unfoldable pub rulesKept : Form → List ℕ → Bool
+rulesKept F image =
+    both (all (soundAt F image) (wholeBlocks image))
+    (both (eqb (recordedIn image) (recordCount image)) (all (goodRecord (leavesIn image) 0 (recordAt image)) (recordCount image)))
+
+-- the test of an image by a form
+unfoldable pub testBy : Form → List ℕ → ℕ
+testBy F image = pick (both (lengthRight image) (checksRight F image)) (pick (rulesKept F image) 0 11) 10
+
+-- the form that a head, and the image with it, is tested by: there is one
+abbrev pub formIn : List ℕ → Form
+formIn b = version1
+
+abbrev pub formOf : List ℕ → Form
+formOf image = formIn (imageBlock image 0)
 
 -- "The image test gives 0, 10 or 11."
-unfoldable pub imageTest : ℕ → ℕ → List ℕ → ℕ
-imageTest M version image = pick (both (lengthRight image) (checksRight M image)) (pick (rulesKept version image) 0 11) 10
+abbrev pub imageTest : List ℕ → ℕ
+imageTest image = testBy (formOf image) image

@@ -3,12 +3,12 @@
 use geometry::Geometry;
 ghost use mathlib.Core.Path.{_≡_};
 ghost use mathlib.Core.Bool.{true};
-ghost use Prim.Native.Nat.{_+_, _*_, _/_, _-_, _≤_, _<_};
+ghost use Prim.Native.Nat.{_*_, _/_, _%_, _-_, _≤_, _<_};
 ghost use lib.ListN.{length, replicate};
 ghost use Rattle.laws.specs.Choice.{both};
 ghost use Rattle.laws.specs.Bytes.{putW};
 ghost use Rattle.laws.specs.Scan.{all};
-ghost use Rattle.image.specs.Test.{wholeBlocks, unusedZero, headSound, countRight, blockSound, soundAt, leavesIn, recordedIn, recordCount, recordIn, recordAt, goodAbove, goodRecord, checksRight, rulesKept, imageTest};
+ghost use Rattle.image.specs.Test.{countOf, unusedZero, headSound, countRight, blockSound, leavesIn, recordedIn, recordCount, recordIn, lowest, goodRecord, recordGood, formIn, imageTest};
 
 // An image block's bytes, where its records begin, where the first one's 64 bytes begin, where its check stands; a record's bytes, and the records of a full block.
 pub const BLOCK: usize = 512;
@@ -42,15 +42,15 @@ fn unused_zero(block: &[u8], at: usize) -> bool
 
 // The head is sound, its m apart.
 pub fn head_sound(block: &[u8]) -> bool
-    ensures { λ r. ⌜ r ≡ headSound 1 (now (block .entry)) ⌝ }
+    ensures { λ r. ⌜ r ≡ headSound (formIn (now (block .entry))) (now (block .entry)) ⌝ }
 {
     if block.len() != BLOCK {
         return false;
     }
-    let number = block::group_at(block, 0);
+    let number = sums::four_at(block, 0);
     let kind = sums::two_at(block, 4);
     let version = sums::two_at(block, 6);
-    let n = block::group_at(block, 8);
+    let n = sums::four_at(block, 8);
     let zeros = unused_zero(block, 16);
     let limits = Geometry::in_limits(n as u64);
     and(
@@ -80,56 +80,10 @@ pub fn block_sound(last: bool, j: u64, block: &[u8]) -> bool
     if !count_right(last, count) {
         return false;
     }
-    let number = block::group_at(block, 0);
+    let number = sums::four_at(block, 0);
     let kind = sums::two_at(block, 4);
     let zeros = unused_zero(block, RECORDS + RECORD * (count as usize));
     and(number as u64 == j, and(kind == 2, zeros))
-}
-
-// Block j, which the image has, is sound.
-fn sound_at(image: &[u8], j: usize) -> bool
-    requires { ⌜ j < wholeBlocks (now image) ⌝ }
-    ensures { λ r. ⌜ r ≡ soundAt 1 (now (image .entry)) j ⌝ }
-{
-    let at = BLOCK * j;
-    if j == 0 {
-        return head_sound(&image[at..at + BLOCK]);
-    }
-    let last = j + 1 == image.len() / BLOCK;
-    block_sound(last, j as u64, &image[at..at + BLOCK])
-}
-
-// Every whole block is sound.
-fn all_sound(image: &[u8]) -> bool
-    ensures { λ r. ⌜ r ≡ all (soundAt 1 (now (image .entry))) (wholeBlocks (now (image .entry))) ⌝ }
-{
-    let whole = image.len() / BLOCK;
-    let mut j: usize = 0;
-    while j < whole {
-        let sound = sound_at(image, j);
-        if !sound {
-            return false;
-        }
-        j += 1;
-    }
-    true
-}
-
-// Every whole block's check is right.
-fn checks_right(image: &[u8]) -> bool
-    ensures { λ r. ⌜ r ≡ checksRight 65535 (now (image .entry)) ⌝ }
-{
-    let whole = image.len() / BLOCK;
-    let mut j: usize = 0;
-    while j < whole {
-        let at = BLOCK * j;
-        let right = sums::check_right(&image[at..at + BLOCK]);
-        if !right {
-            return false;
-        }
-        j += 1;
-    }
-    true
 }
 
 // The number of records, by the number of blocks and the last one's count.
@@ -144,85 +98,123 @@ fn record_count(image: &[u8]) -> usize
     FULL * (whole - 2) + (sums::two_at(&image[at..at + BLOCK], 6) as usize)
 }
 
-// Record i of a block is good above the leaves below `low`.
-fn record_good(n: u32, low: u64, block: &[u8], i: usize) -> bool
-    requires { ⌜ (length (now block) ≡ 512) × (i < 7) ⌝ }
-    ensures { λ r. ⌜ r ≡ goodAbove n low (recordIn (now (block .entry)) i) ⌝ }
+// Record i of a block is good above the leaves below `low`; a record that the block has no room for is not.
+pub fn record_good(n: u32, low: u64, block: &[u8], i: usize) -> bool
+    ensures { λ r. ⌜ r ≡ recordGood n low (now (block .entry)) i ⌝ }
 {
-    let leaf = block::group_at(block, RECORDS + RECORD * i);
+    if block.len() != BLOCK {
+        return false;
+    }
+    if FULL <= i {
+        return false;
+    }
+    let leaf = sums::four_at(block, RECORDS + RECORD * i);
     let at = CONTENT + RECORD * i;
     let empty = block::all_zero(&block[at..at + Geometry::BLOCK_LEN]);
     and(low <= leaf as u64, and(leaf < n, !empty))
 }
 
-// Record p, which the image has, is good above the leaves below `low`.
-fn good_at(n: u32, low: u64, image: &[u8], p: usize) -> bool
-    requires { ⌜ p / 7 + 1 < wholeBlocks (now image) ⌝ }
-    ensures { λ r. ⌜ r ≡ goodAbove n low (recordAt (now (image .entry)) p) ⌝ }
-{
-    let at = BLOCK * (1 + p / FULL);
-    record_good(n, low, &image[at..at + BLOCK], p % FULL)
+// Whether the rules were kept so far, and, if so, the leaf number after that of the last record.
+struct Kept {
+    good: bool,
+    low: u64,
 }
 
-// The leaf number of record p, which the image has.
-fn leaf_at(image: &[u8], p: usize) -> u32
-    requires { ⌜ p / 7 + 1 < wholeBlocks (now image) ⌝ }
-    ensures { λ r. ⌜ r ≡ recordAt (now (image .entry)) p .leaf ⌝ }
+// The first `count` records of a block, after records that are all below leaf `low`.
+fn records_good(n: u32, low: u64, block: &[u8], count: usize) -> Kept
+    requires { ⌜ (length (now block) ≡ 512) × (count ≤ 7) ⌝ }
+    ensures { λ r. ⌜ (r .good ≡ all (goodRecord n low (recordIn (now (block .entry)))) count) × (r .good ≡ true → r .low ≡ lowest low (recordIn (now (block .entry))) count) ⌝ }
 {
-    let at = BLOCK * (1 + p / FULL);
-    block::group_at(&image[at..at + BLOCK], RECORDS + RECORD * (p % FULL))
-}
-
-// The first m records, which the image has, are good.
-fn records_good(n: u32, image: &[u8], m: usize) -> bool
-    requires { ⌜ m ≤ 7 * (wholeBlocks (now image) - 1) ⌝ }
-    ensures { λ r. ⌜ r ≡ all (goodRecord n (recordAt (now (image .entry)))) m ⌝ }
-{
-    let mut p: usize = 0;
-    let mut low: u64 = 0;
-    while p < m {
-        let good = good_at(n, low, image, p);
+    let mut i: usize = 0;
+    let mut next = low;
+    while i < count {
+        let good = record_good(n, next, block, i);
         if !good {
-            return false;
+            return Kept {
+                good: false,
+                low: next,
+            };
         }
-        let leaf = leaf_at(image, p);
-        low = leaf as u64 + 1;
-        p += 1;
+        next = sums::four_at(block, RECORDS + RECORD * i) as u64 + 1;
+        i += 1;
     }
-    true
+    Kept {
+        good: true,
+        low: next,
+    }
+}
+
+// Record block j with its records, after the blocks before it.
+fn block_kept(n: u32, before: Kept, last: bool, j: u64, block: &[u8]) -> Kept
+    requires { ⌜ length (now block) ≡ 512 ⌝ }
+    ensures { λ r. ⌜ (r .good ≡ both (before .good) (both (blockSound last j (now (block .entry))) (all (goodRecord n (before .low) (recordIn (now (block .entry)))) (countOf (now (block .entry)))))) × (r .good ≡ true → r .low ≡ lowest (before .low) (recordIn (now (block .entry))) (countOf (now (block .entry)))) ⌝ }
+{
+    if !before.good {
+        return before;
+    }
+    let sound = block_sound(last, j, block);
+    if !sound {
+        return Kept {
+            good: false,
+            low: 0,
+        };
+    }
+    let count = sums::two_at(block, 6) as usize;
+    records_good(n, before.low, block, count)
 }
 
 // n in the head of an image.
 pub fn leaves_in(image: &[u8]) -> u32
     ensures { λ r. ⌜ r ≡ leavesIn (now (image .entry)) ⌝ }
 {
-    block::group_at(image, 8)
+    sums::four_at(image, 8)
 }
 
 // m in the head of an image.
 pub fn recorded_in(image: &[u8]) -> u32
     ensures { λ r. ⌜ r ≡ recordedIn (now (image .entry)) ⌝ }
 {
-    block::group_at(image, 12)
+    sums::four_at(image, 12)
 }
 
-// The rules beside the checks are kept.
-fn rules_kept(image: &[u8]) -> bool
-    ensures { λ r. ⌜ r ≡ rulesKept 1 (now (image .entry)) ⌝ }
+// The test of an image of whole blocks, one block after the other: 10 at the first wrong check; after the last 11 where another rule is broken.
+fn test_blocks(image: &[u8]) -> u64
+    requires { ⌜ (0 < length (now image)) × (length (now image) % 512 ≡ 0) ⌝ }
+    ensures { λ r. ⌜ r ≡ imageTest (now (image .entry)) ⌝ }
 {
-    if !all_sound(image) {
-        return false;
+    let whole = image.len() / BLOCK;
+    let right = sums::check_right(&image[0..BLOCK]);
+    if !right {
+        return 10;
     }
-    let m = record_count(image);
-    if recorded_in(image) as usize != m {
-        return false;
+    let n = leaves_in(image);
+    let sound = head_sound(&image[0..BLOCK]);
+    let mut kept = Kept {
+        good: sound,
+        low: 0,
+    };
+    let mut j: usize = 1;
+    while j < whole {
+        let at = BLOCK * j;
+        let good = sums::check_right(&image[at..at + BLOCK]);
+        if !good {
+            return 10;
+        }
+        kept = block_kept(n, kept, j + 1 == whole, j as u64, &image[at..at + BLOCK]);
+        j += 1;
     }
-    records_good(leaves_in(image), image, m)
+    if !kept.good {
+        return 11;
+    }
+    if recorded_in(image) as usize != record_count(image) {
+        return 11;
+    }
+    0
 }
 
 // The image test: 0, 10 or 11.
 pub fn image_test(image: &[u8]) -> u64
-    ensures { λ r. ⌜ r ≡ imageTest 65535 1 (now (image .entry)) ⌝ }
+    ensures { λ r. ⌜ r ≡ imageTest (now (image .entry)) ⌝ }
 {
     if image.len() == 0 {
         return 10;
@@ -230,13 +222,7 @@ pub fn image_test(image: &[u8]) -> u64
     if image.len() % BLOCK != 0 {
         return 10;
     }
-    if !checks_right(image) {
-        return 10;
-    }
-    if !rules_kept(image) {
-        return 11;
-    }
-    0
+    test_blocks(image)
 }
 
 // Zeros into `count` bytes from `at`; where they do not fit, nothing changes.

@@ -1,6 +1,6 @@
 -- Laws of tests: what a test that came out true or false says of its parts.
 use mathlib.Core.Path.{_≡_, refl, sym}
-use mathlib.Core.Bool.{Bool, true, false}
+use mathlib.Core.Bool.{Bool, true, false, not}
 use mathlib.Core.Logic.{_⊎_, inl, inr}
 use Prim.Native.Nat.{ℕ}
 use native.Mathlib.Omega.{arith}
@@ -17,6 +17,10 @@ module _ (a b : Bool) where
   pub both-true : a ≡ true → b ≡ true → both a b ≡ true
   unfolding both
   both-true p q = rw (p, q)
+
+  pub both-when : a ≡ true → both a b ≡ b
+  unfolding both
+  both-when p = rw p
 
   pub both-false-left : a ≡ false → both a b ≡ false
   unfolding both
@@ -56,3 +60,8 @@ pub implied : (a b : Bool) → (a ≡ true → b ≡ true) → implies a b ≡ t
 unfolding implies
 implied true b h = h refl
 implied false b h = refl
+
+pub no-not : (b : Bool) → not b ≡ no b
+unfolding no
+no-not true = refl
+no-not false = refl

@@ -21,10 +21,10 @@ module _ (image : List ℕ) (p : ℕ) where
   unfolding readingAt atEnd either
   is-record h g = rw (lt-leb (wholeBlocks image) (1 + p / 7) h, lt-leb (countOf (imageBlock image (1 + p / 7))) (p % 7) g)
 
-pub opened-is : (image : List ℕ) → imageTest 65535 1 image ≡ 0 → openedImage image ≡ image
+pub opened-is : (image : List ℕ) → imageTest image ≡ 0 → openedImage image ≡ image
 unfolding openedImage
-opened-is image h = rw (eq-eqb (imageTest 65535 1 image) 0 h)
+opened-is image h = rw (eq-eqb (imageTest image) 0 h)
 
-pub opened-not : (image : List ℕ) → (imageTest 65535 1 image ≡ 0 → ⊥) → openedImage image ≡ []
+pub opened-not : (image : List ℕ) → (imageTest image ≡ 0 → ⊥) → openedImage image ≡ []
 unfolding openedImage
-opened-not image h = rw (ne-eqb (imageTest 65535 1 image) 0 h)
+opened-not image h = rw (ne-eqb (imageTest image) 0 h)

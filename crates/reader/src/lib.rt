@@ -44,7 +44,7 @@ pub fn read_at(image: &[u8], place: u64) -> Reading
             next: place,
         };
     }
-    let leaf = block::group_at(
+    let leaf = sums::four_at(
         &image[at..at + image::BLOCK],
         image::RECORDS + image::RECORD * slot,
     );

@@ -38,17 +38,17 @@ filled-all n image p e = ap (filled n (recordsIn image)) (e ∙ sym (length-reco
 
 -- the ways out
 module _ (image mem : List ℕ) where
-  pub untested : (imageTest 65535 1 image ≡ 0 → ⊥)
-      → (imageTest 65535 1 image ≡ restoringRefusal image (length mem)) × (mem ≡ restored image mem)
+  pub untested : (imageTest image ≡ 0 → ⊥)
+      → (imageTest image ≡ restoringRefusal image (length mem)) × (mem ≡ restored image mem)
   unfolding restored restoringRefusal
-  untested h = (rw (ne-eqb (imageTest 65535 1 image) 0 h), rw (ne-eqb (imageTest 65535 1 image) 0 h, ne-eqb (imageTest 65535 1 image) 0 h))
+  untested h = (rw (ne-eqb (imageTest image) 0 h), rw (ne-eqb (imageTest image) 0 h, ne-eqb (imageTest image) 0 h))
 
-  pub unfit : imageTest 65535 1 image ≡ 0 → (length mem ≡ memoryLength (leavesIn image) → ⊥)
+  pub unfit : imageTest image ≡ 0 → (length mem ≡ memoryLength (leavesIn image) → ⊥)
       → (2 ≡ restoringRefusal image (length mem)) × (mem ≡ restored image mem)
   unfolding restored restoringRefusal
   unfit t h = let e = ne-eqb (length mem) (memoryLength (leavesIn image)) h in (rw (eq-eqb _ _ t, e), rw (eq-eqb _ _ t, e))
 
-  pub filled-in : imageTest 65535 1 image ≡ 0 → length mem ≡ memoryLength (leavesIn image)
+  pub filled-in : imageTest image ≡ 0 → length mem ≡ memoryLength (leavesIn image)
       → (0 ≡ restoringRefusal image (length mem)) × (memoryOf (leavesIn image) (recordsIn image) ≡ restored image mem)
   unfolding restored restoringRefusal
   filled-in t h = let e = eq-eqb (length mem) (memoryLength (leavesIn image)) h in (rw (eq-eqb _ _ t, e), rw (eq-eqb _ _ t, e))

@@ -1,4 +1,4 @@
-// The check of a block: 01 "Archive image", its second paragraph, and the two-byte numbers it is stored in.
+// The check of a block: 01 "Archive image", its second paragraph; and the numbers of an image, of two and of four bytes.
 // No public function has a `requires`: where the bytes are not all there, a read gives 0 and a write changes nothing.
 ghost use mathlib.Core.Path.{_≡_};
 ghost use Prim.Native.Nat.{_+_, _*_, _<_, _≤_};
@@ -20,6 +20,7 @@ struct Sums {
     b: u16,
 }
 
+// Two bytes as a number, low byte first.
 fn join2(low: u8, high: u8) -> u16
     ensures { λ r. ⌜ r ≡ low + 256 * high ⌝ }
 {
@@ -51,6 +52,42 @@ pub fn put_two(row: &mut [u8], at: usize, v: u16)
     }
     row[at] = (v % 256) as u8;
     row[at + 1] = (v / 256 % 256) as u8;
+}
+
+// Four bytes as a number, low byte first.
+fn join4(a: u8, b: u8, c: u8, d: u8) -> u32
+    ensures { λ r. ⌜ r ≡ a + 256 * b + 65536 * c + 16777216 * d ⌝ }
+{
+    a as u32 + 256 * (b as u32) + 65536 * (c as u32) + 16777216 * (d as u32)
+}
+
+// The four-byte number from `at`; 0 where its bytes are not all there.
+pub fn four_at(row: &[u8], at: usize) -> u32
+    ensures { λ r. ⌜ r ≡ numberAt 4 (now (row .entry)) at ⌝ }
+{
+    if row.len() < 4 {
+        return 0;
+    }
+    if row.len() - 4 < at {
+        return 0;
+    }
+    join4(row[at], row[at + 1], row[at + 2], row[at + 3])
+}
+
+// The number v into four bytes from `at`; where they do not fit, nothing changes.
+pub fn put_four(row: &mut [u8], at: usize, v: u32)
+    ensures { λ _. ⌜ now (row .exit) ≡ putW 4 (now (row .entry)) at (bytes 4 v) ⌝ }
+{
+    if row.len() < 4 {
+        return;
+    }
+    if row.len() - 4 < at {
+        return;
+    }
+    row[at] = (v % 256) as u8;
+    row[at + 1] = (v / 256 % 256) as u8;
+    row[at + 2] = (v / 256 / 256 % 256) as u8;
+    row[at + 3] = (v / 256 / 256 / 256 % 256) as u8;
 }
 
 // Word k of a block that has it.
@@ -94,7 +131,7 @@ pub fn check_right(block: &[u8]) -> bool
     two_at(block, CHECK + 2) == s.b
 }
 
-// The block gets its check; bytes that are no block stay as they were.
+// The block gets its check in bytes 508 to 511; where fewer than 512 bytes are lent, nothing changes.
 pub fn seal(block: &mut [u8])
     ensures { λ _. ⌜ now (block .exit) ≡ withCheck 65535 (now (block .entry)) ⌝ }
 {

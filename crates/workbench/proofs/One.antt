@@ -17,5 +17,5 @@ pub bench-restore-one : (image mem : List ℕ) {r s : ℕ} {o p : List ℕ}
     → (r ≡ restoringRefusal image (length mem)) × (o ≡ restored image mem) → (s ≡ restoringRefusal image (length mem)) × (p ≡ restored image mem) → (r ≡ s) × (o ≡ p)
 bench-restore-one = restore-one
 
-pub bench-image-test-one : (image : List ℕ) {r s : ℕ} → r ≡ imageTest 65535 1 image → s ≡ imageTest 65535 1 image → r ≡ s
+pub bench-image-test-one : (image : List ℕ) {r s : ℕ} → r ≡ imageTest image → s ≡ imageTest image → r ≡ s
 bench-image-test-one = image-test-one

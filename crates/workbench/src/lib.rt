@@ -23,7 +23,7 @@ pub extern "C" fn bench_restore(image: &[u8], memory: &mut [u8]) -> u64
 // The image test.
 #[no_mangle]
 pub extern "C" fn bench_image_test(image: &[u8]) -> u64
-    ensures { λ r. ⌜ r ≡ imageTest 65535 1 (now (image .entry)) ⌝ }
+    ensures { λ r. ⌜ r ≡ imageTest (now (image .entry)) ⌝ }
 {
     image::image_test(image)
 }

@@ -1,48 +1,45 @@
 -- Laws of writing: writes one after the other make a record, a block's front, a block, the head and the image.
 use mathlib.Core.Path.{_≡_, refl, ap, sym, _∙_}
 use mathlib.Core.List.{List, [], _++_, append-assoc}
-use mathlib.Core.Logic.{⊎-elim}
+use mathlib.Core.Logic.{inr, ⊎-elim}
 use Prim.Native.Nat.{ℕ, suc, _+_, _*_, _-_, _≤_, _<_}
 use native.Mathlib.Numerals.{add-one}
 use native.Mathlib.Omega.{arith}
 use lib.ListN.{length, getD, replicate, length-append, length-replicate}
 use Rattle.laws.specs.Bytes.{part, splice, putW, bytes}
-use Rattle.laws.proofs.Splice.{length-splice, length-part′, lt-or-ge}
+use Rattle.laws.proofs.Splice.{length-splice, length-part′, part-same, part-other, splice-id, lt-or-ge}
 use Rattle.laws.proofs.Put.{putW-fits}
 use Rattle.laws.proofs.Value.{length-bytes}
-use Rattle.block.specs.Block.{blockOr0}
-use Rattle.block.proofs.Blocks.{blockOr0-fits}
 use Rattle.sums.specs.Check.{checkOf, withCheck}
 use Rattle.laws.proofs.Writes.{splice-none, splice-then, take-splice}
 use Rattle.sums.proofs.Right.{sealed}
-use Rattle.image.specs.Encode.{Record, none, recordBytes, recordsBytes, headFront, headOf, blockFront, blockOf, next7, recordBlocks, blocksFor, encode, recordOf, recordsBelow, recordsOf, imageOf}
+use Rattle.image.specs.Encode.{Form, version1, Record, none, Sized, recordBytes, recordsBytes, headFront, headRest, headOf, headed, blockFront, blockWith, closed, blockOf, next7, recordBlocks, blocksFor, encode, recordOf, recordsBelow, recordsOf, imageOf}
 use Rattle.memory.specs.PlainReading.{leafBit}
-use Rattle.image.proofs.Records.{Sized, records-sized, records-none, records-more, below-at, length-take, length-record, length-records, length-headFront, length-head, length-blockFront, length-payload, length-block, length-blocks, next-few, next-full, next-bounds}
+use Rattle.memory.specs.True.{blockAt}
+use Rattle.image.proofs.Records.{records-sized, closed-is, closed-records, headed-is, records-none, records-more, below-at, length-take, length-record, length-records, length-headFront, length-head, length-blockFront, length-payload, length-block, length-blocks, next-few, next-full, next-bounds}
 
 -- a write right after another
-pub put-then : (w : ℕ) (l : List ℕ) (at : ℕ) (v b : List ℕ) (p : ℕ) → p ≡ at + length v → length b ≡ w → p + w ≤ length l → putW w (splice l at v) p b ≡ splice l at (v ++ b)
-put-then w l at v b p e h g =
+pub put-then : (w : ℕ) (l : List ℕ) (at : ℕ) (v b : List ℕ) (p : ℕ) → p ≡ at + length v → p + w ≤ length l → putW w (splice l at v) p b ≡ splice l at (v ++ b)
+put-then w l at v b p e g =
     let s : length (splice l at v) ≡ length l = length-splice l at v (omega arith) in
     putW-fits w (splice l at v) p b (omega arith) ∙ splice-then l at v b p e (omega arith)
 
-pub record-law : (o : List ℕ) (at : ℕ) (mem : List ℕ) (k : ℕ) → at + 68 ≤ length o → 64 * k + 64 ≤ length mem
-    → putW 64 (putW 4 o at (bytes 4 k)) (at + 4) (blockOr0 mem (64 * k)) ≡ splice o at (recordBytes (recordOf mem k))
-record-law o at mem k h g =
+pub record-law : (o : List ℕ) (at k : ℕ) (content : List ℕ) → at + 68 ≤ length o
+    → putW 64 (putW 4 o at (bytes 4 k)) (at + 4) content ≡ putW 68 o at (bytes 4 k ++ content)
+record-law o at k content h =
     let lb : length (bytes 4 k) ≡ 4 = length-bytes 4 k in
-    let lp : length (part mem (64 * k) 64) ≡ 64 = length-part′ mem (64 * k) 64 g in
-    rw (putW-fits 4 o at (bytes 4 k) (omega arith), blockOr0-fits mem (64 * k) g) (put-then 64 o at (bytes 4 k) (part mem (64 * k) 64) (at + 4) (omega arith) lp (omega arith))
+    rw (putW-fits 4 o at (bytes 4 k) (omega arith), putW-fits 68 o at (bytes 4 k ++ content) h) (put-then 64 o at (bytes 4 k) content (at + 4) (omega arith) (omega arith))
 
 pub front-law : (o : List ℕ) (j c : ℕ) → length o ≡ 512
     → putW 2 (putW 2 (putW 4 o 0 (bytes 4 j)) 4 (bytes 2 2)) 6 (bytes 2 c) ≡ splice o 0 (blockFront j c)
 front-law o j c h =
     let lj : length (bytes 4 j) ≡ 4 = length-bytes 4 j in
     let l2 : length (bytes 2 2) ≡ 2 = length-bytes 2 2 in
-    let lc : length (bytes 2 c) ≡ 2 = length-bytes 2 c in
     let f : length (bytes 4 j ++ bytes 2 2) ≡ 6 = omega (arith, length-append (bytes 4 j) (bytes 2 2)) in
     rw (
       putW-fits 4 o 0 (bytes 4 j) (omega arith),
-      put-then 2 o 0 (bytes 4 j) (bytes 2 2) 4 (omega arith) l2 (omega arith),
-      put-then 2 o 0 (bytes 4 j ++ bytes 2 2) (bytes 2 c) 6 (omega arith) lc (omega arith),
+      put-then 2 o 0 (bytes 4 j) (bytes 2 2) 4 (omega arith) (omega arith),
+      put-then 2 o 0 (bytes 4 j ++ bytes 2 2) (bytes 2 c) 6 (omega arith) (omega arith),
     )
     (ap (splice o 0) (append-assoc (bytes 4 j) (bytes 2 2) (bytes 2 c)))
 
@@ -52,53 +49,80 @@ finish-law M o v h e =
     let s : length (splice o 0 v) ≡ 512 = length-splice o 0 v (omega arith) ∙ h in
     sealed M (splice o 0 v) s ∙ ap (λ (l : List ℕ). l ++ checkOf M l) (take-splice o v 508 e)
 
-pub block-law : (o : List ℕ) (j c : ℕ) (rs : List Record) (a : ℕ) → length o ≡ 512 → c ≤ 7 → Sized rs → a + c ≤ length rs
-    → withCheck 65535 (putW (508 - (8 + 68 * c)) (splice (splice o 0 (blockFront j c)) 8 (recordsBytes rs a c)) (8 + 68 * c) (replicate (508 - (8 + 68 * c)) 0)) ≡ blockOf 65535 j rs a c
-unfolding blockOf
-block-law o j c rs a h le s g =
-    let R : List ℕ = recordsBytes rs a c in
+with-law : (M : ℕ) (o : List ℕ) (j c : ℕ) → length o ≡ 512 → c ≤ 7
+    → withCheck M (putW (508 - (8 + 68 * c)) (splice o 0 (blockFront j c)) (8 + 68 * c) (replicate (508 - (8 + 68 * c)) 0)) ≡ blockWith M j c (part o 8 (68 * c))
+unfolding blockWith
+with-law M o j c h le =
+    let R : List ℕ = part o 8 (68 * c) in
+    let S : List ℕ = splice o 0 (blockFront j c) in
     let lf : length (blockFront j c) ≡ 8 = length-blockFront j c in
-    let lr : length R ≡ 68 * c = length-records rs s a c g in
+    let lr : length R ≡ 68 * c = length-part′ o 8 (68 * c) (omega arith) in
+    let lS : length S ≡ length o = length-splice o 0 (blockFront j c) (omega arith) in
+    let r : part S 8 (68 * c) ≡ R = part-other o 0 (blockFront j c) 8 (68 * c) (omega arith) (omega arith) (inr (omega arith)) in
+    let s : S ≡ splice S 8 R = splice-id S 8 (68 * c) (omega arith) ∙ ap (splice S 8) r in
     let lv : length (blockFront j c ++ R) ≡ 8 + 68 * c = omega (arith, length-append (blockFront j c) R) in
     let e : 508 - (8 + 68 * c) ≡ 500 - 68 * c = omega arith in
     let z : length {A = ℕ} (replicate (500 - 68 * c) 0) ≡ 500 - 68 * c = length-replicate (500 - 68 * c) 0 in
-    rw (
-      e,
-      splice-then o 0 (blockFront j c) R 8 (omega arith) (omega arith),
-      put-then (500 - 68 * c) o 0 (blockFront j c ++ R) (replicate (500 - 68 * c) 0) (8 + 68 * c) (omega arith) z (omega arith),
-    )
-    (finish-law 65535 o ((blockFront j c ++ R) ++ replicate (500 - 68 * c) 0) h (length-payload j c R le lr))
+    let t : S ≡ splice o 0 (blockFront j c ++ R) = s ∙ splice-then o 0 (blockFront j c) R 8 (omega arith) (omega arith) in
+    ap (λ (l : List ℕ). withCheck M (putW (508 - (8 + 68 * c)) l (8 + 68 * c) (replicate (508 - (8 + 68 * c)) 0))) t
+    ∙ rw (e, put-then (500 - 68 * c) o 0 (blockFront j c ++ R) (replicate (500 - 68 * c) 0) (8 + 68 * c) (omega arith) (omega arith))
+    (finish-law M o ((blockFront j c ++ R) ++ replicate (500 - 68 * c) 0) h (length-payload j c R le lr))
 
-pub head-law : (o : List ℕ) (n m : ℕ) → length o ≡ 512
-    → withCheck 65535 (putW 492 (putW 4 (putW 4 (putW 2 (putW 2 (putW 4 o 0 (bytes 4 0)) 4 (bytes 2 1)) 6 (bytes 2 1)) 8 (bytes 4 n)) 12 (bytes 4 m)) 16 (replicate 492 0)) ≡ headOf 65535 1 n m
+-- a front, zeros and a check over the records that stand in a row
+pub close-law : (M : ℕ) (o : List ℕ) (j c : ℕ) → length o ≡ 512 → c ≤ 7
+    → withCheck M (putW (508 - (8 + 68 * c)) (splice o 0 (blockFront j c)) (8 + 68 * c) (replicate (508 - (8 + 68 * c)) 0)) ≡ closed M o j c
+close-law M o j c h le = with-law M o j c h le ∙ sym (closed-is M o j c h le)
+
+pub block-law : (o : List ℕ) (j c : ℕ) (rs : List Record) (a : ℕ) → length o ≡ 512 → c ≤ 7 → Sized rs → a + c ≤ length rs
+    → closed 65535 (splice o 8 (recordsBytes rs a c)) j c ≡ blockOf 65535 j rs a c
+block-law o j c rs a h le s g =
+    let R : List ℕ = recordsBytes rs a c in
+    let lr : length R ≡ 68 * c = length-records rs s a c g in
+    let ls : length (splice o 8 R) ≡ 512 = length-splice o 8 R (omega arith) ∙ h in
+    closed-records 65535 (splice o 8 R) j rs a c ls le (ap (part (splice o 8 R) 8) (sym lr) ∙ part-same o 8 R (omega arith))
+
+head-law : (F : Form) (o : List ℕ) (n m : ℕ) → length o ≡ 512 → headRest F ≡ replicate 492 0
+    → withCheck (F .modulus) (putW 492 (putW 4 (putW 4 (putW 2 (putW 2 (putW 4 o 0 (bytes 4 0)) 4 (bytes 2 1)) 6 (bytes 2 (F .version))) 8 (bytes 4 n)) 12 (bytes 4 m)) 16 (replicate 492 0)) ≡ headed F o n m
 unfolding headOf
-head-law o n m h =
+head-law F o n m h z =
     let A : List ℕ = bytes 4 0 in
     let B : List ℕ = bytes 2 1 in
+    let X : List ℕ = bytes 2 (F .version) in
     let N : List ℕ = bytes 4 n in
     let L : List ℕ = bytes 4 m in
     let Z : List ℕ = replicate 492 0 in
     let la : length A ≡ 4 = length-bytes 4 0 in
     let lb : length B ≡ 2 = length-bytes 2 1 in
+    let lw : length X ≡ 2 = length-bytes 2 (F .version) in
     let ln : length N ≡ 4 = length-bytes 4 n in
     let lm : length L ≡ 4 = length-bytes 4 m in
     let lz : length Z ≡ 492 = length-replicate {A = ℕ} 492 0 in
     let l₁ : length (A ++ B) ≡ 6 = omega (arith, length-append A B) in
-    let l₂ : length ((A ++ B) ++ B) ≡ 8 = omega (arith, length-append (A ++ B) B) in
-    let l₃ : length (((A ++ B) ++ B) ++ N) ≡ 12 = omega (arith, length-append ((A ++ B) ++ B) N) in
-    let l₄ : length ((((A ++ B) ++ B) ++ N) ++ L) ≡ 16 = omega (arith, length-append (((A ++ B) ++ B) ++ N) L) in
-    let e : (((A ++ B) ++ B) ++ N) ++ L ≡ headFront 1 n m = simp append-assoc in
-    let lv : length (headFront 1 n m ++ Z) ≡ 508 = omega (arith, length-append (headFront 1 n m) Z, length-headFront 1 n m) in
+    let l₂ : length ((A ++ B) ++ X) ≡ 8 = omega (arith, length-append (A ++ B) X) in
+    let l₃ : length (((A ++ B) ++ X) ++ N) ≡ 12 = omega (arith, length-append ((A ++ B) ++ X) N) in
+    let l₄ : length ((((A ++ B) ++ X) ++ N) ++ L) ≡ 16 = omega (arith, length-append (((A ++ B) ++ X) ++ N) L) in
+    let e : (((A ++ B) ++ X) ++ N) ++ L ≡ headFront F n m = simp append-assoc in
+    let lv : length (headFront F n m ++ Z) ≡ 508 = omega (arith, length-append (headFront F n m) Z, length-headFront F n m) in
     rw (
       putW-fits 4 o 0 A (omega arith),
-      put-then 2 o 0 A B 4 (omega arith) lb (omega arith),
-      put-then 2 o 0 (A ++ B) B 6 (omega arith) lb (omega arith),
-      put-then 4 o 0 ((A ++ B) ++ B) N 8 (omega arith) ln (omega arith),
-      put-then 4 o 0 (((A ++ B) ++ B) ++ N) L 12 (omega arith) lm (omega arith),
-      put-then 492 o 0 ((((A ++ B) ++ B) ++ N) ++ L) Z 16 (omega arith) lz (omega arith),
+      put-then 2 o 0 A B 4 (omega arith) (omega arith),
+      put-then 2 o 0 (A ++ B) X 6 (omega arith) (omega arith),
+      put-then 4 o 0 ((A ++ B) ++ X) N 8 (omega arith) (omega arith),
+      put-then 4 o 0 (((A ++ B) ++ X) ++ N) L 12 (omega arith) (omega arith),
+      put-then 492 o 0 ((((A ++ B) ++ X) ++ N) ++ L) Z 16 (omega arith) (omega arith),
       e,
     )
-    (finish-law 65535 o (headFront 1 n m ++ Z) h lv)
+    (finish-law (F .modulus) o (headFront F n m ++ Z) h lv ∙ ap (λ (x : List ℕ). (headFront F n m ++ x) ++ checkOf (F .modulus) (headFront F n m ++ x)) (sym z) ∙ sym (headed-is F o n m h))
+
+-- the head of version 1
+pub head-law-1 : (o : List ℕ) (n m : ℕ) → length o ≡ 512
+    → withCheck 65535 (putW 492 (putW 4 (putW 4 (putW 2 (putW 2 (putW 4 o 0 (bytes 4 0)) 4 (bytes 2 1)) 6 (bytes 2 1)) 8 (bytes 4 n)) 12 (bytes 4 m)) 16 (replicate 492 0)) ≡ headed version1 o n m
+unfolding version1
+head-law-1 o n m h = head-law version1 o n m h refl
+
+pub after-1 : length (version1 .after) ≤ 492
+unfolding version1
+after-1 = omega arith
 
 -- where the writing of record blocks has come to, after j of them: the next leaf is k
 pub record Progress (o mem : List ℕ) (n m : ℕ) (out : List ℕ) (j k : ℕ) : Type 0 where
@@ -150,14 +174,14 @@ module _ (o mem : List ℕ) (n m : ℕ) (out : List ℕ) (j k : ℕ) (P : Progre
 
 -- the head and the blocks after it
 pub image-law : (o mem : List ℕ) (n m : ℕ) → m ≡ length (recordsOf n mem) → 64 * n ≤ length mem → 512 * (1 + blocksFor m) ≤ length o
-    → splice (splice o 0 (headOf 65535 1 n m)) 512 (recordBlocks 65535 (recordsOf n mem) (blocksFor m)) ≡ splice o 0 (imageOf n mem)
-unfolding encode
+    → splice (splice o 0 (headOf version1 n m)) 512 (recordBlocks 65535 (recordsOf n mem) (blocksFor m)) ≡ splice o 0 (imageOf n mem)
+unfolding encode version1
 image-law o mem n m e long big =
     let rs : List Record = recordsOf n mem in
-    let lh : length (headOf 65535 1 n m) ≡ 512 = length-head 65535 1 n m in
+    let lh : length (headOf version1 n m) ≡ 512 = length-head version1 n m after-1 in
     let lb : length (recordBlocks 65535 rs (blocksFor m)) ≡ 512 * blocksFor m = length-blocks 65535 rs (records-sized n mem long) (blocksFor m) (omega arith) in
-    splice-then o 0 (headOf 65535 1 n m) (recordBlocks 65535 rs (blocksFor m)) 512 (omega arith) (omega arith)
-    ∙ ap (λ (x : ℕ). splice o 0 (headOf 65535 1 n x ++ recordBlocks 65535 rs (blocksFor x))) e
+    splice-then o 0 (headOf version1 n m) (recordBlocks 65535 rs (blocksFor m)) 512 (omega arith) (omega arith)
+    ∙ ap (λ (x : ℕ). splice o 0 (headOf version1 n x ++ recordBlocks 65535 rs (blocksFor x))) e
 
 -- where the writing of a block's records has come to, after i of them: the next leaf is `next`
 pub record Written (o mem : List ℕ) (n k : ℕ) (row : List ℕ) (i next : ℕ) : Type 0 where
@@ -177,9 +201,9 @@ module _ (o mem : List ℕ) (n k : ℕ) (row : List ℕ) (i next count found : �
   found-leaf =
       ⊎-elim (λ l. l) (λ (g : n ≤ found). let e : found ≡ n = omega arith in absurd (omega (arith, W .place, ap length same, ap (λ (x : ℕ). length (recordsBelow n mem x)) e))) (lt-or-ge found n)
 
-  pub next-record : leafBit n mem found ≡ 1 → 64 * n ≤ length mem → 8 + 68 * count ≤ length o
-      → Written o mem n k (splice row (8 + 68 * i) (recordBytes (recordOf mem found))) (i + 1) (found + 1)
-  next-record b long room =
+  pub next-record : leafBit n mem found ≡ 1 → 64 * n ≤ length mem → 8 + 68 * count ≤ length o → (content : List ℕ) → content ≡ blockAt mem found
+      → Written o mem n k (putW 68 row (8 + 68 * i) (bytes 4 found ++ content)) (i + 1) (found + 1)
+  next-record b long room content same-bytes =
       let rs : List Record = recordsOf n mem in
       let a : ℕ = length (recordsBelow n mem k) in
       let s : Sized rs = records-sized n mem long in
@@ -187,11 +211,12 @@ module _ (o mem : List ℕ) (n k : ℕ) (row : List ℕ) (i next count found : �
       let g : getD rs (a + i) none ≡ recordOf mem found = ap (λ (x : ℕ). getD rs x none) (sym p) ∙ below-at n mem n found found-leaf b in
       let lr : length (recordsBytes rs a i) ≡ 68 * i = length-records rs s a i (omega arith) in
       let lb : length (recordBytes (recordOf mem found)) ≡ 68 = length-record (recordOf mem found) (length-part′ mem (64 * found) 64 (omega (arith, found-leaf))) in
-      record {
+      rw (same-bytes, putW-fits 68 row (8 + 68 * i) (recordBytes (recordOf mem found)) (omega (arith, W .long)))
+      (record {
         long = length-splice row (8 + 68 * i) (recordBytes (recordOf mem found)) (omega (arith, W .long)) ∙ W .long;
         done = ap (λ (l : List ℕ). splice l (8 + 68 * i) (recordBytes (recordOf mem found))) (W .done)
             ∙ splice-then o 8 (recordsBytes rs a i) (recordBytes (recordOf mem found)) (8 + 68 * i) (omega arith) (omega arith)
             ∙ ap (splice o 8) (ap (λ (r : Record). recordsBytes rs a i ++ recordBytes r) (sym g) ∙ sym (records-more rs a i));
         leaf = omega (arith, found-leaf);
         place = omega (arith, length-take n mem found b);
-      }
+      })

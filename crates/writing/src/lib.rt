@@ -1,68 +1,101 @@
 // Writing an image from a true memory: 01 "Archive image", "Writing reads a true memory".
-// No public function has a `requires`.
+// A block is written over any records: `put_record` puts each in its place, `close_block` makes the row their block. No public function has a `requires`.
 use geometry::Geometry;
 ghost use mathlib.Core.Path.{_≡_};
 ghost use Prim.Native.Nat.{_+_, _*_, _/_, _-_, _≤_, _<_};
 ghost use lib.ListN.{length};
-ghost use Rattle.laws.specs.Bytes.{splice};
+ghost use mathlib.Core.List.{_++_};
+ghost use Rattle.laws.specs.Bytes.{splice, putW, bytes};
+ghost use Rattle.geometry.specs.TagMemory.{memoryLength};
 ghost use Rattle.memory.specs.PlainReading.{leafBit};
-ghost use Rattle.image.specs.Encode.{recordBytes, recordsBytes, headOf, blockFront, blockOf, next7, recordBlocks, blocksFor, recordOf, recordsBelow, recordsOf, imageOf};
+ghost use Rattle.image.specs.Encode.{version1, recordsBytes, headed, blockFront, closed, blockOf, next7, recordBlocks, blocksFor, recordsBelow, recordsOf, imageOf};
 ghost use Rattle.image.specs.Calls.{writingAnswer, written};
 
 const REFUSED: u64 = 4294967296;
 
-// The number of leaves with bit 1.
-fn count_marked(n: u32, memory: &[u8]) -> u32
-    ensures { λ r. ⌜ r ≡ length (recordsOf n (now (memory .entry))) ⌝ }
+// The leaf after j and the others of its map byte, or n.
+fn past_byte(n: u32, j: u32) -> u32
+    requires { ⌜ j < n ⌝ }
+    ensures { λ r. ⌜ (j < r) × (r ≤ n) × (r ≤ j / 8 * 8 + 8) ⌝ }
 {
-    let mut m: u32 = 0;
-    let mut k: u32 = 0;
-    while k < n {
-        let bit = memory::leaf_bit(n, memory, k);
-        if bit == 1 {
-            m += 1;
-        }
-        k += 1;
+    let left = Geometry::BYTE_BITS - j % Geometry::BYTE_BITS;
+    if n - j <= left {
+        return n;
     }
-    m
+    j + left
+}
+
+// The first leaf from k on whose map byte is not zero, or n.
+fn pass_zeros(n: u32, memory: &[u8], k: u32) -> u32
+    requires { ⌜ (k ≤ n) × (length (now memory) ≡ memoryLength n) ⌝ }
+    ensures { λ r. ⌜ (k ≤ r) × (r ≤ n) × (recordsBelow n (now (memory .entry)) r ≡ recordsBelow n (now (memory .entry)) k) ⌝ }
+{
+    let mut j = k;
+    while j < n {
+        let at = Geometry::map_place(n, j);
+        if memory[at] != 0 {
+            return j;
+        }
+        j = past_byte(n, j);
+    }
+    j
 }
 
 // The first leaf from k on with bit 1, or n.
 fn next_marked(n: u32, memory: &[u8], k: u32) -> u32
-    requires { ⌜ k ≤ n ⌝ }
-    ensures { λ r. ⌜ (r ≤ n) × (recordsBelow n (now (memory .entry)) r ≡ recordsBelow n (now (memory .entry)) k) × (r < n → leafBit n (now (memory .entry)) r ≡ 1) ⌝ }
+    requires { ⌜ (k ≤ n) × (length (now memory) ≡ memoryLength n) ⌝ }
+    ensures { λ r. ⌜ (k ≤ r) × (r ≤ n) × (recordsBelow n (now (memory .entry)) r ≡ recordsBelow n (now (memory .entry)) k) × (r < n → leafBit n (now (memory .entry)) r ≡ 1) ⌝ }
 {
-    let mut j = k;
+    let mut j = pass_zeros(n, memory, k);
     while j < n {
         let bit = memory::leaf_bit(n, memory, j);
         if bit == 1 {
             return j;
         }
-        j += 1;
+        j = pass_zeros(n, memory, j + 1);
     }
     j
 }
 
-// Leaf k's record into a row from `at`.
-fn put_record(row: &mut [u8], at: usize, k: u32, memory: &[u8])
-    requires { ⌜ (at + 68 ≤ length (now row)) × (64 * k + 64 ≤ length (now memory)) ⌝ }
-    ensures { λ _. ⌜ now (row .exit) ≡ splice (now (row .entry)) at (recordBytes (recordOf (now (memory .entry)) k)) ⌝ }
+// The number of leaves with bit 1.
+fn count_marked(n: u32, memory: &[u8]) -> u32
+    requires { ⌜ length (now memory) ≡ memoryLength n ⌝ }
+    ensures { λ r. ⌜ r ≡ length (recordsOf n (now (memory .entry))) ⌝ }
 {
-    block::put_group(row, at, k);
-    let leaf = block::read_block(memory, Geometry::block_place(k));
-    block::write_block(row, at + 4, &leaf);
+    let mut m: u32 = 0;
+    let mut k = next_marked(n, memory, 0);
+    while k < n {
+        m += 1;
+        k = next_marked(n, memory, k + 1);
+    }
+    m
+}
+
+// A record, its leaf number and 64 bytes, into a row from `at`; where it does not fit, nothing changes.
+pub fn put_record(row: &mut [u8], at: usize, leaf: u32, content: &[u8; Geometry::BLOCK_LEN])
+    ensures { λ _. ⌜ now (row .exit) ≡ putW 68 (now (row .entry)) at (bytes 4 leaf ++ now (content .entry)) ⌝ }
+{
+    if row.len() < image::RECORD {
+        return;
+    }
+    if row.len() - image::RECORD < at {
+        return;
+    }
+    sums::put_four(row, at, leaf);
+    block::write_block(row, at + 4, content);
 }
 
 // The next `count` records into a block, from leaf k on. Gives the leaf after the last one.
 fn put_records(row: &mut [u8], count: usize, n: u32, memory: &[u8], k: u32) -> u32
-    requires { ⌜ (length (now row) ≡ 512) × (count ≤ 7) × (64 * n ≤ length (now memory)) × (k ≤ n) × (length (recordsBelow n (now memory) k) + count ≤ length (recordsOf n (now memory))) ⌝ }
+    requires { ⌜ (length (now row) ≡ 512) × (count ≤ 7) × (length (now memory) ≡ memoryLength n) × (k ≤ n) × (length (recordsBelow n (now memory) k) + count ≤ length (recordsOf n (now memory))) ⌝ }
     ensures { λ r. ⌜ (now (row .exit) ≡ splice (now (row .entry)) 8 (recordsBytes (recordsOf n (now (memory .entry))) (length (recordsBelow n (now (memory .entry)) k)) count)) × (r ≤ n) × (length (recordsBelow n (now (memory .entry)) r) ≡ length (recordsBelow n (now (memory .entry)) k) + count) ⌝ }
 {
     let mut i: usize = 0;
     let mut next: u32 = k;
     while i < count {
         let found = next_marked(n, memory, next);
-        put_record(row, image::RECORDS + image::RECORD * i, found, memory);
+        let leaf = block::read_block(memory, Geometry::block_place(found));
+        put_record(row, image::RECORDS + image::RECORD * i, found, &leaf);
         next = found + 1;
         i += 1;
     }
@@ -74,34 +107,49 @@ fn put_front(row: &mut [u8], j: u32, count: u16)
     requires { ⌜ length (now row) ≡ 512 ⌝ }
     ensures { λ _. ⌜ now (row .exit) ≡ splice (now (row .entry)) 0 (blockFront j count) ⌝ }
 {
-    block::put_group(row, 0, j);
+    sums::put_four(row, 0, j);
     sums::put_two(row, 4, 2);
     sums::put_two(row, 6, count);
 }
 
-// Record block j with the next `count` records, from leaf k on. Gives the leaf after the last one.
-fn put_block(row: &mut [u8], j: u32, count: u16, n: u32, memory: &[u8], k: u32) -> u32
-    requires { ⌜ (length (now row) ≡ 512) × (count ≤ 7) × (64 * n ≤ length (now memory)) × (k ≤ n) × (length (recordsBelow n (now memory) k) + count ≤ length (recordsOf n (now memory))) ⌝ }
-    ensures { λ r. ⌜ (now (row .exit) ≡ blockOf 65535 j (recordsOf n (now (memory .entry))) (length (recordsBelow n (now (memory .entry)) k)) count) × (r ≤ n) × (length (recordsBelow n (now (memory .entry)) r) ≡ length (recordsBelow n (now (memory .entry)) k) + count) ⌝ }
+// The row, in which `count` records stand in their places, made record block j: its front, zeros after the records, the check. A row that is no block stays as it was, and so does one with more than 7 records.
+pub fn close_block(row: &mut [u8], j: u32, count: u16)
+    ensures { λ _. ⌜ now (row .exit) ≡ closed 65535 (now (row .entry)) j count ⌝ }
 {
+    if row.len() != image::BLOCK {
+        return;
+    }
+    if 7 < count {
+        return;
+    }
     put_front(row, j, count);
-    let next = put_records(row, count as usize, n, memory, k);
     let at = image::RECORDS + image::RECORD * (count as usize);
     image::clear(row, at, image::CHECK - at);
     sums::seal(row);
+}
+
+// Record block j with the next `count` records, from leaf k on. Gives the leaf after the last one.
+fn put_block(row: &mut [u8], j: u32, count: u16, n: u32, memory: &[u8], k: u32) -> u32
+    requires { ⌜ (length (now row) ≡ 512) × (count ≤ 7) × (length (now memory) ≡ memoryLength n) × (k ≤ n) × (length (recordsBelow n (now memory) k) + count ≤ length (recordsOf n (now memory))) ⌝ }
+    ensures { λ r. ⌜ (now (row .exit) ≡ blockOf 65535 j (recordsOf n (now (memory .entry))) (length (recordsBelow n (now (memory .entry)) k)) count) × (r ≤ n) × (length (recordsBelow n (now (memory .entry)) r) ≡ length (recordsBelow n (now (memory .entry)) k) + count) ⌝ }
+{
+    let next = put_records(row, count as usize, n, memory, k);
+    close_block(row, j, count);
     next
 }
 
-// The head.
-fn put_head(row: &mut [u8], n: u32, m: u32)
-    requires { ⌜ length (now row) ≡ 512 ⌝ }
-    ensures { λ _. ⌜ now (row .exit) ≡ headOf 65535 1 n m ⌝ }
+// The row made the head; a row that is no block stays as it was.
+pub fn put_head(row: &mut [u8], n: u32, m: u32)
+    ensures { λ _. ⌜ now (row .exit) ≡ headed version1 (now (row .entry)) n m ⌝ }
 {
-    block::put_group(row, 0, 0);
+    if row.len() != image::BLOCK {
+        return;
+    }
+    sums::put_four(row, 0, 0);
     sums::put_two(row, 4, 1);
     sums::put_two(row, 6, 1);
-    block::put_group(row, 8, n);
-    block::put_group(row, 12, m);
+    sums::put_four(row, 8, n);
+    sums::put_four(row, 12, m);
     image::clear(row, 16, 492);
     sums::seal(row);
 }
@@ -118,7 +166,7 @@ fn next_7(left: u32) -> u16
 
 // The record blocks of m leaves with bit 1, from block 1 on.
 fn put_blocks(output: &mut [u8], n: u32, memory: &[u8], m: u32)
-    requires { ⌜ (512 * (1 + blocksFor m) ≤ length (now output)) × (64 * n ≤ length (now memory)) × (n ≤ 262144) × (m ≤ n) × (m ≡ length (recordsOf n (now memory))) ⌝ }
+    requires { ⌜ (512 * (1 + blocksFor m) ≤ length (now output)) × (length (now memory) ≡ memoryLength n) × (n ≤ 262144) × (m ≤ n) × (m ≡ length (recordsOf n (now memory))) ⌝ }
     ensures { λ _. ⌜ now (output .exit) ≡ splice (now (output .entry)) 512 (recordBlocks 65535 (recordsOf n (now (memory .entry))) (blocksFor m)) ⌝ }
 {
     let blocks = (m + 6) / 7;
@@ -141,7 +189,7 @@ fn put_blocks(output: &mut [u8], n: u32, memory: &[u8], m: u32)
 
 // The image of a memory of n leaves, m of them with bit 1, into an output that has room.
 fn put_image(output: &mut [u8], n: u32, memory: &[u8], m: u32)
-    requires { ⌜ (512 * (1 + blocksFor m) ≤ length (now output)) × (64 * n ≤ length (now memory)) × (n ≤ 262144) × (m ≤ n) × (m ≡ length (recordsOf n (now memory))) ⌝ }
+    requires { ⌜ (512 * (1 + blocksFor m) ≤ length (now output)) × (length (now memory) ≡ memoryLength n) × (n ≤ 262144) × (m ≤ n) × (m ≡ length (recordsOf n (now memory))) ⌝ }
     ensures { λ _. ⌜ now (output .exit) ≡ splice (now (output .entry)) 0 (imageOf n (now (memory .entry))) ⌝ }
 {
     put_head(&mut output[0..image::BLOCK], n, m);

@@ -24,8 +24,8 @@ returns-2 c = let s = c .before .before .before .before .before in
     let f : countRight (s .args .last) (countOf (s .args .block .now)) ≡ false = cc in
     sym (block-miscounted _ _ _ f)
 
-group-at-requires : tie.Need-group-at-requires
-group-at-requires c κs = search needs
+four-at-requires : tie.Need-four-at-requires
+four-at-requires c κs = search needs
 
 two-at-requires-2 : tie.Need-two-at-requires-2
 two-at-requires-2 c κs = search needs
@@ -65,7 +65,7 @@ block-sound-spec =
     two-at-requires
     count-right-requires
     returns-2
-    group-at-requires
+    four-at-requires
     two-at-requires-2
     cast-unused-zero
     mul-unused-zero

@@ -1,16 +1,16 @@
 -- `image::head_sound` meets its contract: each field is read, and the tests are put together as in the definition.
 use mathlib.Core.Path.{sym}
 use native.Mathlib.Omega.{arith}
-use Rattle.image.proofs.Sound.{head-short, head-by}
+use Rattle.image.proofs.Sound.{head-short, head-by-1}
 use borrow.Author.Needs.{needs}
 use Rattle.image.proofs.head_sound.Statement.{statement}
 use Rattle.image.proofs.head_sound.Tie as tie
 
 returns : tie.Need-returns
-returns c = sym (head-short 1 _ (c .if1 .taken))
+returns c = sym (head-short _ _ (c .if1 .taken))
 
-group-at-requires : tie.Need-group-at-requires
-group-at-requires c κs = search needs
+four-at-requires : tie.Need-four-at-requires
+four-at-requires c κs = search needs
 
 two-at-requires : tie.Need-two-at-requires
 two-at-requires c κs = search needs
@@ -18,8 +18,8 @@ two-at-requires c κs = search needs
 two-at-requires-2 : tie.Need-two-at-requires-2
 two-at-requires-2 c κs = search needs
 
-group-at-requires-2 : tie.Need-group-at-requires-2
-group-at-requires-2 c κs = search needs
+four-at-requires-2 : tie.Need-four-at-requires-2
+four-at-requires-2 c κs = search needs
 
 unused-zero-requires : tie.Need-unused-zero-requires
 unused-zero-requires c κs = search needs
@@ -43,17 +43,17 @@ and-requires-4 : tie.Need-and-requires-4
 and-requires-4 c κs = search needs
 
 returns-2 : tie.Need-returns-2
-returns-2 c = cc (head-by 1 (c .before .before .before .before .before .before .before .before .before .before .before .before .args .block .now) (omega arith))
+returns-2 c = cc (head-by-1 (c .before .before .before .before .before .before .before .before .before .before .before .before .args .block .now) (omega arith))
 
 pub head-sound-spec : {M : Type 1} → statement M
 head-sound-spec =
     tie.close
     (tie.spec
     returns
-    group-at-requires
+    four-at-requires
     two-at-requires
     two-at-requires-2
-    group-at-requires-2
+    four-at-requires-2
     unused-zero-requires
     cast-in-limits
     in-limits-requires

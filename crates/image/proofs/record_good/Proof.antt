@@ -1,20 +1,29 @@
 -- `image::record_good` meets its contract: the record's fields are read, and the tests are put together as in the definition.
+use mathlib.Core.Path.{sym}
 use Prim.Native.Nat.{_+_, _*_}
+use native.Mathlib.Omega.{arith}
+use Rattle.laws.proofs.Choice.{no-not}
 use Rattle.laws.proofs.Put.{part-is}
 use Rattle.image.specs.Test.{recordIn}
-use Rattle.image.proofs.Rules.{no-not, good-by}
+use Rattle.image.proofs.Rules.{good-by, record-short, record-past, record-by}
 use borrow.Author.Needs.{needs}
 use Rattle.image.proofs.record_good.Statement.{statement}
 use Rattle.image.proofs.record_good.Tie as tie
 
-mul-group-at : tie.Need-mul-group-at
-mul-group-at c = search needs
+returns : tie.Need-returns
+returns c = sym (record-short _ _ _ _ (c .if1 .taken))
 
-add-group-at : tie.Need-add-group-at
-add-group-at c = search needs
+returns-2 : tie.Need-returns-2
+returns-2 c = sym (record-past _ _ _ _ (c .if2 .taken))
 
-group-at-requires : tie.Need-group-at-requires
-group-at-requires c κs = search needs
+mul-four-at : tie.Need-mul-four-at
+mul-four-at c = search needs
+
+add-four-at : tie.Need-add-four-at
+add-four-at c = search needs
+
+four-at-requires : tie.Need-four-at-requires
+four-at-requires c κs = search needs
 
 mul-at : tie.Need-mul-at
 mul-at c = search needs
@@ -46,17 +55,19 @@ and-requires c κs = search needs
 and-requires-2 : tie.Need-and-requires-2
 and-requires-2 c κs = search needs
 
-returns : tie.Need-returns
-returns c = let a = c .before .before .before .before .before .before .args in
-    cc (part-is (a .block .now) (12 + 68 * a .i) 64, no-not (c .before .before .all-zero .result), good-by (a .n) (a .low) (recordIn (a .block .now) (a .i)))
+returns-3 : tie.Need-returns-3
+returns-3 c = let a = c .before .before .before .before .before .before .before .before .args in
+    cc (part-is (a .block .now) (12 + 68 * a .i) 64, no-not (c .before .before .all-zero .result), good-by (a .n) (a .low) (recordIn (a .block .now) (a .i)), record-by (a .n) (a .low) (a .block .now) (a .i) (omega arith) (omega arith))
 
 pub record-good-spec : {M : Type 1} → statement M
 record-good-spec =
     tie.close
     (tie.spec
-    mul-group-at
-    add-group-at
-    group-at-requires
+    returns
+    returns-2
+    mul-four-at
+    add-four-at
+    four-at-requires
     mul-at
     add-at
     add-all-zero
@@ -67,4 +78,4 @@ record-good-spec =
     cast-and
     and-requires
     and-requires-2
-    returns)
+    returns-3)

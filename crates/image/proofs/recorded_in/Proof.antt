@@ -1,16 +1,16 @@
 -- `image::recorded_in` meets its contract: the head's numbers stand at the same places in the image.
 use mathlib.Core.Path.{sym, _∙_}
 use native.Mathlib.Omega.{arith}
-use Rattle.image.proofs.Parts.{numberAt-front}
+use Rattle.laws.proofs.Parts.{numberAt-front}
 use borrow.Author.Needs.{needs}
 use Rattle.image.proofs.recorded_in.Statement.{statement}
 use Rattle.image.proofs.recorded_in.Tie as tie
 
-group-at-requires : tie.Need-group-at-requires
-group-at-requires c κs = search needs
+four-at-requires : tie.Need-four-at-requires
+four-at-requires c κs = search needs
 
 returns : tie.Need-returns
-returns c = c .group-at .ensures ∙ sym (numberAt-front 4 _ 512 12 (omega arith))
+returns c = c .four-at .ensures ∙ sym (numberAt-front 4 _ 512 12 (omega arith))
 
 pub recorded-in-spec : {M : Type 1} → statement M
-recorded-in-spec = tie.close (tie.spec group-at-requires returns)
+recorded-in-spec = tie.close (tie.spec four-at-requires returns)

@@ -1,46 +1,55 @@
--- `image::records_good` meets its contract: the records before record p are good, and `low` is the leaf number after the last of them.
-use mathlib.Core.Path.{_≡_, ap, sym, _∙_}
-use mathlib.Core.Bool.{true}
+-- `image::records_good` meets its contract: the records before record i are good, and `next` is the leaf number after the last of them.
+use mathlib.Core.Path.{_≡_, refl, ap, sym, _∙_}
+use mathlib.Core.Bool.{true, false}
 use Prim.Native.Nat.{_-_, _≤_}
 use native.Mathlib.Omega.{arith}
 use borrow.Author.Tests.{not-true, not-false}
 use Rattle.laws.specs.Scan.{all}
+use Rattle.laws.proofs.Choice.{not-both-ways}
 use Rattle.laws.proofs.Scan.{all-zero, all-more, all-fails}
-use Rattle.image.specs.Test.{recordAt, lowest, goodRecord}
-use Rattle.image.proofs.Rules.{lowest-none, lowest-more, good-is}
+use Rattle.image.specs.Test.{recordIn, lowest, goodRecord}
+use Rattle.image.proofs.Rules.{record-by, lowest-none, lowest-more, good-is}
 use borrow.Author.Needs.{needs}
 use Rattle.image.proofs.records_good.Statement.{statement}
 use Rattle.image.proofs.records_good.Tie as tie
 
 abbrev Inv-loop : tie.InvT-loop
-Inv-loop n image m p₀ low₀ p low = (p ≤ m) × (low ≡ lowest (recordAt image) p) × (all (goodRecord n (recordAt image)) p ≡ true)
+Inv-loop n low block count i₀ next₀ i next = (i ≤ count) × (next ≡ lowest low (recordIn block) i) × (all (goodRecord n low (recordIn block)) i ≡ true)
 
 abbrev μ-loop : tie.MeasureT-loop
-μ-loop n image m p₀ low₀ p low = m - p
+μ-loop n low block count i₀ next₀ i next = count - i
 
 loop-holds : tie.Need-loop-holds Inv-loop μ-loop
-loop-holds c = (omega arith, sym (lowest-none _), all-zero _)
+loop-holds c = (omega arith, sym (lowest-none _ _), all-zero _)
 
-good-at-requires : tie.Need-good-at-requires Inv-loop μ-loop
-good-at-requires c κs = search needs
+record-good-requires : tie.Need-record-good-requires Inv-loop μ-loop
+record-good-requires c κs = search needs
 
 returns : tie.Need-returns Inv-loop μ-loop
 returns c = let a = c .before .before .before .before .before .args in
-    let l = c .before .before .before .loop in
-    sym (all-fails (goodRecord (a .n) (recordAt (a .image .now))) (a .m) (l .p) (omega arith)
-    (good-is (a .n) (recordAt (a .image .now)) (l .p) (l .low) (l .inv .1) ∙ sym (c .before .good-at .ensures) ∙ not-true _ (c .if1 .taken)))
+    let l = c .before .before .before .loop in (
+      sym (all-fails (goodRecord (a .n) (a .low) (recordIn (a .block .now))) (a .count) (l .i) (omega arith)
+          (good-is (a .n) (a .low) (recordIn (a .block .now)) (l .i) (l .next) (l .inv .1) ∙ sym (record-by (a .n) (l .next) (a .block .now) (l .i) (omega arith) (omega arith)) ∙ sym (c .before .record-good .ensures) ∙ not-true _ (c .if1 .taken))),
+      λ e. absurd (not-both-ways {b = false} e refl),
+    )
 
-leaf-at-requires : tie.Need-leaf-at-requires Inv-loop μ-loop
-leaf-at-requires c κs = search needs
+mul-four-at : tie.Need-mul-four-at Inv-loop μ-loop
+mul-four-at c = search needs
 
-cast-low : tie.Need-cast-low Inv-loop μ-loop
-cast-low c = search needs
+add-four-at : tie.Need-add-four-at Inv-loop μ-loop
+add-four-at c = search needs
 
-add-low : tie.Need-add-low Inv-loop μ-loop
-add-low c = search needs
+four-at-requires : tie.Need-four-at-requires Inv-loop μ-loop
+four-at-requires c κs = search needs
 
-add-p : tie.Need-add-p Inv-loop μ-loop
-add-p c = search needs
+cast-next : tie.Need-cast-next Inv-loop μ-loop
+cast-next c = search needs
+
+add-next : tie.Need-add-next Inv-loop μ-loop
+add-next c = search needs
+
+add-i : tie.Need-add-i Inv-loop μ-loop
+add-i c = search needs
 
 loop-less : tie.Need-loop-less Inv-loop μ-loop
 loop-less c = search needs
@@ -49,15 +58,16 @@ loop-again : tie.Need-loop-again Inv-loop μ-loop
 loop-again c = let a = c .before .before .before .before .before .before .args in
     let l = c .before .before .before .before .loop in (
       omega arith,
-      cc (lowest-more (recordAt (a .image .now)) (l .p)),
-      all-more (goodRecord (a .n) (recordAt (a .image .now))) (l .p) (l .inv .2)
-          (good-is (a .n) (recordAt (a .image .now)) (l .p) (l .low) (l .inv .1) ∙ sym (c .before .before .good-at .ensures) ∙ not-false _ (c .before .if1 .left)),
+      cc (lowest-more (a .low) (recordIn (a .block .now)) (l .i)),
+      all-more (goodRecord (a .n) (a .low) (recordIn (a .block .now))) (l .i) (l .inv .2)
+          (good-is (a .n) (a .low) (recordIn (a .block .now)) (l .i) (l .next) (l .inv .1) ∙ sym (record-by (a .n) (l .next) (a .block .now) (l .i) (omega arith) (omega arith)) ∙ sym (c .before .before .record-good .ensures) ∙ not-false _ (c .before .if1 .left)),
     )
 
 returns-2 : tie.Need-returns-2 Inv-loop μ-loop
 returns-2 c = let a = c .before .before .before .args in
-    let e : c .before .loop .p ≡ a .m = omega arith in
-    sym (c .before .loop .inv .2) ∙ ap (all (goodRecord (a .n) (recordAt (a .image .now)))) e
+    let l = c .before .loop in
+    let e : l .i ≡ a .count = omega arith in
+    (sym (l .inv .2) ∙ ap (all (goodRecord (a .n) (a .low) (recordIn (a .block .now)))) e, λ _. l .inv .1 ∙ ap (lowest (a .low) (recordIn (a .block .now))) e)
 
 pub records-good-spec : {M : Type 1} → statement M
 records-good-spec =
@@ -66,12 +76,14 @@ records-good-spec =
     Inv-loop
     μ-loop
     loop-holds
-    good-at-requires
+    record-good-requires
     returns
-    leaf-at-requires
-    cast-low
-    add-low
-    add-p
+    mul-four-at
+    add-four-at
+    four-at-requires
+    cast-next
+    add-next
+    add-i
     loop-less
     loop-again
     returns-2)

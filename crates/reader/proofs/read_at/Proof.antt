@@ -41,26 +41,26 @@ returns-2 c = let a = c .before .before .before .before .before .args in
     let e : c .before .two-at .result ≡ countOf (imageBlock (a .image .now) (1 + a .place / 7)) = c .before .two-at .ensures ∙ ap countOf (part-is (a .image .now) (512 * (1 + a .place / 7)) 512) in
     sym (past-count (a .image .now) (a .place) (omega arith) (omega arith))
 
-add-group-at : tie.Need-add-group-at
-add-group-at c = search needs
+add-four-at : tie.Need-add-four-at
+add-four-at c = search needs
 
-sub-group-at : tie.Need-sub-group-at
-sub-group-at c = search needs
+sub-four-at : tie.Need-sub-four-at
+sub-four-at c = search needs
 
-part-group-at-start : tie.Need-part-group-at-start
-part-group-at-start c = search needs
+part-four-at-start : tie.Need-part-four-at-start
+part-four-at-start c = search needs
 
-part-group-at-end : tie.Need-part-group-at-end
-part-group-at-end c = search needs
+part-four-at-end : tie.Need-part-four-at-end
+part-four-at-end c = search needs
 
-mul-group-at : tie.Need-mul-group-at
-mul-group-at c = search needs
+mul-four-at : tie.Need-mul-four-at
+mul-four-at c = search needs
 
-add-group-at-2 : tie.Need-add-group-at-2
-add-group-at-2 c = search needs
+add-four-at-2 : tie.Need-add-four-at-2
+add-four-at-2 c = search needs
 
-group-at-requires : tie.Need-group-at-requires
-group-at-requires c κs = search needs
+four-at-requires : tie.Need-four-at-requires
+four-at-requires c κs = search needs
 
 mul-start : tie.Need-mul-start
 mul-start c = search needs
@@ -80,7 +80,7 @@ add-t23 c = search needs
 returns-3 : tie.Need-returns-3
 returns-3 c = let a = c .before .before .before .before .before .before .before .args in
     let e : c .before .before .before .two-at .result ≡ countOf (imageBlock (a .image .now) (1 + a .place / 7)) = c .before .before .before .two-at .ensures ∙ ap countOf (part-is (a .image .now) (512 * (1 + a .place / 7)) 512) in
-    let f : c .group-at .result ≡ recordAt (a .image .now) (a .place) .leaf = cc (part-is (a .image .now) (512 * (1 + a .place / 7)) 512) in
+    let f : c .four-at .result ≡ recordAt (a .image .now) (a .place) .leaf = cc (part-is (a .image .now) (512 * (1 + a .place / 7)) 512) in
     rw f (sym (is-record (a .image .now) (a .place) (omega arith) (omega arith)))
 
 pub read-at-spec : {M : Type 1} → statement M
@@ -97,13 +97,13 @@ read-at-spec =
     two-at-requires
     cast-if2
     returns-2
-    add-group-at
-    sub-group-at
-    part-group-at-start
-    part-group-at-end
-    mul-group-at
-    add-group-at-2
-    group-at-requires
+    add-four-at
+    sub-four-at
+    part-four-at-start
+    part-four-at-end
+    mul-four-at
+    add-four-at-2
+    four-at-requires
     mul-start
     add-start
     add-start-2

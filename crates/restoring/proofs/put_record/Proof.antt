@@ -4,14 +4,14 @@ use borrow.Author.Needs.{needs}
 use Rattle.restoring.proofs.put_record.Statement.{statement}
 use Rattle.restoring.proofs.put_record.Tie as tie
 
-mul-group-at : tie.Need-mul-group-at
-mul-group-at c = search needs
+mul-four-at : tie.Need-mul-four-at
+mul-four-at c = search needs
 
-add-group-at : tie.Need-add-group-at
-add-group-at c = search needs
+add-four-at : tie.Need-add-four-at
+add-four-at c = search needs
 
-group-at-requires : tie.Need-group-at-requires
-group-at-requires c κs = search needs
+four-at-requires : tie.Need-four-at-requires
+four-at-requires c κs = search needs
 
 mul-read-block : tie.Need-mul-read-block
 mul-read-block c = search needs
@@ -48,9 +48,9 @@ pub put-record-spec : {M : Type 1} → statement M
 put-record-spec =
     tie.close
     (tie.spec
-    mul-group-at
-    add-group-at
-    group-at-requires
+    mul-four-at
+    add-four-at
+    four-at-requires
     mul-read-block
     add-read-block
     read-block-requires

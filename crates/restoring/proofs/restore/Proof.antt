@@ -1,6 +1,7 @@
 -- `restoring::restore` meets its contract, by a law for each refusal in its order.
 use mathlib.Core.Path.{sym, _∙_}
 use native.Mathlib.Omega.{arith}
+use Rattle.image.specs.Test.{formOf}
 use Rattle.image.proofs.Rules.{accepted, accepted-fits}
 use Rattle.restoring.proofs.Filling.{untested, unfit, filled-in}
 use borrow.Author.Needs.{needs}
@@ -33,7 +34,7 @@ cast-put-records c = search needs
 
 put-records-requires : tie.Need-put-records-requires
 put-records-requires c κs = let a = c .before .before .before .before .before .before .before .before .before .args in
-    (cc, c .recorded-in .ensures, omega (arith, c .recorded-in .ensures, accepted-fits 65535 1 (a .image .now) (accepted 65535 1 (a .image .now) (sym (c .before .before .before .before .before .before .image-test .ensures) ∙ c .before .before .before .before .before .if1 .left))))
+    (cc, c .recorded-in .ensures, omega (arith, c .recorded-in .ensures, accepted-fits (formOf (a .image .now)) (a .image .now) (accepted (formOf (a .image .now)) (a .image .now) (sym (c .before .before .before .before .before .before .image-test .ensures) ∙ c .before .before .before .before .before .if1 .left))))
 
 same-length : tie.Need-same-length
 same-length c = search needs

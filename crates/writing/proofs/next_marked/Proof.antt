@@ -1,5 +1,5 @@
 -- `writing::next_marked` meets its contract: no leaf from k up to leaf j has bit 1.
-use mathlib.Core.Path.{_≡_, refl, _∙_}
+use mathlib.Core.Path.{_≡_, _∙_}
 use Prim.Native.Nat.{_-_, _≤_}
 use native.Mathlib.Omega.{arith}
 use Rattle.image.specs.Encode.{recordsBelow}
@@ -9,33 +9,40 @@ use Rattle.writing.proofs.next_marked.Statement.{statement}
 use Rattle.writing.proofs.next_marked.Tie as tie
 
 abbrev Inv-loop : tie.InvT-loop
-Inv-loop n memory k j₀ j = (j ≤ n) × (recordsBelow n memory j ≡ recordsBelow n memory k)
+Inv-loop n memory k j₀ j = (k ≤ j) × (j ≤ n) × (recordsBelow n memory j ≡ recordsBelow n memory k)
 
 abbrev μ-loop : tie.MeasureT-loop
 μ-loop n memory k j₀ j = n - j
 
+pass-zeros-requires : tie.Need-pass-zeros-requires Inv-loop μ-loop
+pass-zeros-requires c κs = search needs
+
 loop-holds : tie.Need-loop-holds Inv-loop μ-loop
-loop-holds c = (search needs, refl)
+loop-holds c = c .pass-zeros .ensures
 
 leaf-bit-requires : tie.Need-leaf-bit-requires Inv-loop μ-loop
 leaf-bit-requires c κs = search needs
 
 returns : tie.Need-returns Inv-loop μ-loop
-returns c = (search needs, c .before .before .before .loop .inv .1, λ _. cc)
+returns c = let i = c .before .before .before .loop .inv in (i .0, i .1, i .2, λ _. cc)
 
-add-j : tie.Need-add-j Inv-loop μ-loop
-add-j c = search needs
+add-pass-zeros : tie.Need-add-pass-zeros Inv-loop μ-loop
+add-pass-zeros c = search needs
+
+pass-zeros-requires-2 : tie.Need-pass-zeros-requires-2 Inv-loop μ-loop
+pass-zeros-requires-2 c κs = (omega arith, search needs)
 
 loop-less : tie.Need-loop-less Inv-loop μ-loop
-loop-less c = search needs
+loop-less c = omega arith
 
 loop-again : tie.Need-loop-again Inv-loop μ-loop
-loop-again c = let a = c .before .before .before .before .before .args in
-    let j = c .before .before .before .loop .j in
-    (omega arith, below-skip (a .n) (a .memory .now) j (λ e. c .if1 .left (c .before .leaf-bit .ensures ∙ e)) ∙ c .before .before .before .loop .inv .1)
+loop-again c = let a = c .before .before .before .before .before .before .before .args in
+    let l = c .before .before .before .before .loop in
+    let z = c .pass-zeros2 .ensures in
+    (omega arith, z .1, z .2 ∙ below-skip (a .n) (a .memory .now) (l .j) (λ e. c .before .if1 .left (c .before .before .leaf-bit .ensures ∙ e)) ∙ l .inv .2)
 
 returns-2 : tie.Need-returns-2 Inv-loop μ-loop
-returns-2 c = (search needs, c .before .loop .inv .1, λ h. absurd (omega arith))
+returns-2 c = let i = c .before .loop .inv in (i .0, i .1, i .2, λ h. absurd (omega arith))
 
 pub next-marked-spec : {M : Type 1} → statement M
 next-marked-spec =
@@ -43,10 +50,12 @@ next-marked-spec =
     (tie.spec
     Inv-loop
     μ-loop
+    pass-zeros-requires
     loop-holds
     leaf-bit-requires
     returns
-    add-j
+    add-pass-zeros
+    pass-zeros-requires-2
     loop-less
     loop-again
     returns-2)

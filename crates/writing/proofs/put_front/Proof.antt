@@ -4,8 +4,8 @@ use borrow.Author.Needs.{needs}
 use Rattle.writing.proofs.put_front.Statement.{statement}
 use Rattle.writing.proofs.put_front.Tie as tie
 
-put-group-requires : tie.Need-put-group-requires
-put-group-requires c κs = search needs
+put-four-requires : tie.Need-put-four-requires
+put-four-requires c κs = search needs
 
 put-two-requires : tie.Need-put-two-requires
 put-two-requires c κs = search needs
@@ -22,4 +22,4 @@ returns c = let s = c .before .before .before .before .before .before .before .b
 
 pub put-front-spec : {M : Type 1} → statement M
 put-front-spec =
-    tie.close (tie.spec put-group-requires put-two-requires put-two-requires-2 same-length returns)
+    tie.close (tie.spec put-four-requires put-two-requires put-two-requires-2 same-length returns)

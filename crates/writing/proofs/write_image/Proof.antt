@@ -47,7 +47,7 @@ returns-3 c = let a = c .before .before .before .before .before .before .before 
     refused (a .n) (a .memory .now) (a .output .now) 2 (refusal-3 _ _ _ (sym (c .before .before .before .before .before .in-limits .ensures) ∙ not-false _ (c .before .before .before .before .if1 .left)) (omega (arith, c .before .before .before .memory-length .ensures)) (sym (c .before .is-true .ensures) ∙ not-true _ (c .if3 .taken)))
 
 count-marked-requires : tie.Need-count-marked-requires
-count-marked-requires c κs = search needs
+count-marked-requires c κs = omega (arith, c .before .before .before .memory-length .ensures)
 
 cast-long : tie.Need-cast-long
 cast-long c = search needs
@@ -75,7 +75,7 @@ put-image-requires : tie.Need-put-image-requires
 put-image-requires c κs = let a = c .before .before .before .before .before .before .before .before .before .before .before .args in
     let h = inLimits-most _ (sym (c .before .before .before .before .before .before .before .before .in-limits .ensures) ∙ not-false _ (c .before .before .before .before .before .before .before .if1 .left)) in
     let l : length (a .memory .now) ≡ memoryLength (a .n) = (omega (arith, c .before .before .before .before .before .before .memory-length .ensures)) in
-    (search needs, omega arith, omega arith, omega (arith, c .before .before .count-marked .ensures, length-below (a .n) (a .memory .now) (a .n)), c .before .before .count-marked .ensures)
+    (search needs, l, omega arith, omega (arith, c .before .before .count-marked .ensures, length-below (a .n) (a .memory .now) (a .n)), c .before .before .count-marked .ensures)
 
 same-length : tie.Need-same-length
 same-length c = search needs
