@@ -55,11 +55,12 @@ module _ (n : ℕ) (x y : List ℕ) (h : inLimits n ≡ true) (lx : length x ≡
       (true-or-false (eqb (leafBit n y k) 1))
 
   pub same-reading : (g : ℕ) → plainReading n x g ≡ plainReading n y g
+  unfolding groups
   same-reading g =
       ⊎-elim
-      (λ (q : g < groups n). reading-accepted n x g h lx q ∙ same-group g q ∙ sym (reading-accepted n y g h ly q))
-      (λ (q : groups n ≤ g). refused-6 n x g h lx q ∙ sym (refused-6 n y g h ly q))
-      (lt-or-ge g (groups n))
+      (λ (q : g < 16 * n). reading-accepted n x g h lx q ∙ same-group g q ∙ sym (reading-accepted n y g h ly q))
+      (λ (q : 16 * n ≤ g). refused-6 n x g h lx q ∙ sym (refused-6 n y g h ly q))
+      (lt-or-ge g (16 * n))
 
 -- of any form
 module _ (F : Form) (fit : Fit F) where

@@ -34,7 +34,7 @@ abbrev Counts : Kept → (ℕ → ℕ) → Type 0
 Counts k given = (x : ℕ) → CountsAt given x (trackerIn k x)
 
 givenBy-bare : (c : Call) (given : ℕ → ℕ) → givenBy c given ≡ givenBy (bare c) given
-givenBy-bare (issues x write bottom g v) given = refl
+givenBy-bare (issues x access) given = refl
 givenBy-bare (steps x) given = refl
 givenBy-bare drains given = refl
 givenBy-bare (lends b m c) given = givenBy-bare c given
@@ -78,9 +78,9 @@ module _ (k : Kept) (given : ℕ → ℕ) (K : Counted k given) where
 
   outcome-counts : (c : Call) (o : Out) → Outcome k c o → Counts (kept o) (givenAfter (o .said) c given)
   outcome-counts c o (refused r q z) = rw (z, q) (K .counts)
-  outcome-counts c o (issued x write bottom g v h e is) =
-      rw (ap (λ (a : Out). a .said) is) (each (CountsAt (becomes given x 0)) k (kept o) x (Tracker.issued write bottom g v)
-      (anew k (kept o) x (Tracker.issued write bottom g v) (K .ready) h (ap (λ (a : Out). a .state .n) is) (ap (λ (a : Out). a .state .t) is) (ap (λ (a : Out). a .state .trackers) is))
+  outcome-counts c o (issued x access h e is) =
+      rw (ap (λ (a : Out). a .said) is) (each (CountsAt (becomes given x 0)) k (kept o) x (Tracker.issued access)
+      (anew k (kept o) x (Tracker.issued access) (K .ready) h (ap (λ (a : Out). a .state .n) is) (ap (λ (a : Out). a .state .t) is) (ap (λ (a : Out). a .state .trackers) is))
       (λ b. rw (becomes-same given x 0) (omega arith)) (λ y ne b. rw (becomes-other given x y 0 ne) (K .counts y b)))
   outcome-counts c o (stepped x h b) = step-counts x h b
   outcome-counts c o (drained lines memory is) = rw is (K .counts)

@@ -16,6 +16,7 @@ use Rattle.geometry.specs.TagMemory.{inLimits}
 use Rattle.block.specs.Block.{bitAt, putBit, allZero, blockOr0}
 use Rattle.memory.specs.PlainReading.{leafBit}
 use Rattle.memory.specs.True.{trueAt, isTrue, clearedMap}
+use Rattle.tracker.specs.Tracker.{readOf, writeOf}
 use Rattle.line.specs.Word.{used, blockOf, changed, holder, held, has, word, heldBy, cleaned}
 use Rattle.line.specs.Find.{lineOf, lowestFree, looseFrom, victim, after}
 use Rattle.rules.specs.State.{lengthsRight}
@@ -46,9 +47,9 @@ pub reached-two : (write bottom : Bool) → Reached 2 write bottom
 unfolding both implies no refusal unless leafOf byteOf groups mapBlockOf mapByteOf mapBitOf mapBlocks part splice fits putW value bytes numberAt first all bitOf withBit inLimits bitAt putBit allZero blockOr0 clearedMap leafBit trueAt isTrue used blockOf changed holder held has word heldBy cleaned lineOf lowestFree looseFrom victim after lengthsRight limits holds lineWhole trackerWhole whole rowsFit placeLine placeHand writtenBack placeMemory bringIn drained probe onMap map leafRead putIn writeUnder1 writeUnder0 leafWrite finish inLine fit turnOf fresh opened issueNo issue stepNo step allIdle drainNo drain does next
 reached-two false false =
     let r0 = begun 2 two 1 refl refl refl (omega arith) in
-    let r1 = issued r0 1 true false 17 10 refl in  -- 1 is to write
+    let r1 = issued r0 1 (writeOf false 17 10) refl in  -- 1 is to write
     let r2 = turned r1 refl in  -- 1: Map, it holds
-    let r3 = issued r2 0 false false 17 0 refl in  -- 0 is to read
+    let r3 = issued r2 0 (readOf false 17) refl in  -- 0 is to read
     let r4 = turned r3 refl in  -- 0: waits
     let r5 = turned r4 refl in  -- 1: Leaf
     let r6 = turned r5 refl in  -- 0: waits
@@ -58,9 +59,9 @@ reached-two false false =
     record { order = inOrder 2; passed = _; place = _; given = _; under = _; run = r9; x = 0; below = omega arith; issued-under = refl; writes = refl; goes-up = refl; ends = refl }
 reached-two true false =
     let r0 = begun 2 two 1 refl refl refl (omega arith) in
-    let r1 = issued r0 1 true false 17 10 refl in  -- 1 is to write
+    let r1 = issued r0 1 (writeOf false 17 10) refl in  -- 1 is to write
     let r2 = turned r1 refl in  -- 1: Map, it holds
-    let r3 = issued r2 0 true false 1 11 refl in  -- 0 is to write
+    let r3 = issued r2 0 (writeOf false 1 11) refl in  -- 0 is to write
     let r4 = turned r3 refl in  -- 0: waits
     let r5 = turned r4 refl in  -- 1: Leaf
     let r6 = turned r5 refl in  -- 0: waits
@@ -72,8 +73,8 @@ reached-two true false =
     record { order = inOrder 2; passed = _; place = _; given = _; under = _; run = r11; x = 0; below = omega arith; issued-under = refl; writes = refl; goes-up = refl; ends = refl }
 reached-two false true =
     let r0 = begun 2 two 0 refl refl refl (omega arith) in
-    let r1 = issued r0 0 false true 17 0 refl in  -- 0 is to read, bottom-up
-    let r2 = issued r1 1 true false 17 10 refl in  -- 1 is to write
+    let r1 = issued r0 0 (readOf true 17) refl in  -- 0 is to read, bottom-up
+    let r2 = issued r1 1 (writeOf false 17 10) refl in  -- 1 is to write
     let r3 = turned r2 refl in  -- 0: Probe
     let r4 = turned r3 refl in  -- 1: Map, it holds
     let r5 = turned r4 refl in  -- 0: waits
@@ -85,8 +86,8 @@ reached-two false true =
     record { order = inOrder 2; passed = _; place = _; given = _; under = _; run = r10; x = 0; below = omega arith; issued-under = refl; writes = refl; goes-up = refl; ends = refl }
 reached-two true true =
     let r0 = begun 2 two 0 refl refl refl (omega arith) in
-    let r1 = issued r0 0 true true 1 11 refl in  -- 0 is to write, bottom-up
-    let r2 = issued r1 1 true false 17 10 refl in  -- 1 is to write
+    let r1 = issued r0 0 (writeOf true 1 11) refl in  -- 0 is to write, bottom-up
+    let r2 = issued r1 1 (writeOf false 17 10) refl in  -- 1 is to write
     let r3 = turned r2 refl in  -- 0: Probe
     let r4 = turned r3 refl in  -- 1: Map, it holds
     let r5 = turned r4 refl in  -- 0: waits
@@ -107,24 +108,24 @@ pub reached-one : (write bottom : Bool) → Reached 1 write bottom
 unfolding both implies no refusal unless leafOf byteOf groups mapBlockOf mapByteOf mapBitOf mapBlocks part splice fits putW value bytes numberAt first all bitOf withBit inLimits bitAt putBit allZero blockOr0 clearedMap leafBit trueAt isTrue used blockOf changed holder held has word heldBy cleaned lineOf lowestFree looseFrom victim after lengthsRight limits holds lineWhole trackerWhole whole rowsFit placeLine placeHand writtenBack placeMemory bringIn drained probe onMap map leafRead putIn writeUnder1 writeUnder0 leafWrite finish inLine fit turnOf fresh opened issueNo issue stepNo step allIdle drainNo drain does next
 reached-one false false =
     let r0 = begun 1 one 0 refl refl refl (omega arith) in
-    let r1 = issued r0 0 false false 0 0 refl in  -- to read
+    let r1 = issued r0 0 (readOf false 0) refl in  -- to read
     let r2 = turned r1 refl in  -- Map
     record { order = inOrder 1; passed = _; place = _; given = _; under = _; run = r2; x = 0; below = omega arith; issued-under = refl; writes = refl; goes-up = refl; ends = refl }
 reached-one true false =
     let r0 = begun 1 one 0 refl refl refl (omega arith) in
-    let r1 = issued r0 0 true false 0 0 refl in  -- to write 0
+    let r1 = issued r0 0 (writeOf false 0 0) refl in  -- to write 0
     let r2 = turned r1 refl in  -- Map
     let r3 = turned r2 refl in  -- Leaf
     record { order = inOrder 1; passed = _; place = _; given = _; under = _; run = r3; x = 0; below = omega arith; issued-under = refl; writes = refl; goes-up = refl; ends = refl }
 reached-one false true =
     let r0 = begun 1 one 0 refl refl refl (omega arith) in
-    let r1 = issued r0 0 false true 0 0 refl in  -- to read, bottom-up
+    let r1 = issued r0 0 (readOf true 0) refl in  -- to read, bottom-up
     let r2 = turned r1 refl in  -- Probe
     let r3 = turned r2 refl in  -- Map
     record { order = inOrder 1; passed = _; place = _; given = _; under = _; run = r3; x = 0; below = omega arith; issued-under = refl; writes = refl; goes-up = refl; ends = refl }
 reached-one true true =
     let r0 = begun 1 one 0 refl refl refl (omega arith) in
-    let r1 = issued r0 0 true true 0 0 refl in  -- to write 0, bottom-up
+    let r1 = issued r0 0 (writeOf true 0 0) refl in  -- to write 0, bottom-up
     let r2 = turned r1 refl in  -- Probe
     let r3 = turned r2 refl in  -- Map
     let r4 = turned r3 refl in  -- Leaf

@@ -5,6 +5,7 @@ use Prim.Native.Nat.{ℕ, _<_, _≤_}
 use lib.ListN.{length}
 use borrow.Author.Tests.{ltb-true, lt-ltb}
 use Rattle.laws.proofs.Choice.{not-both-ways, both-left, both-right, both-true}
+use Rattle.tracker.specs.declared.Access.{Access}
 use Rattle.tracker.specs.declared.Phase.the-variants.{Map}
 use Rattle.tracker.specs.Tracker.{isIdle, holdsAt}
 use Rattle.tracker.specs.Answer.{no}
@@ -34,9 +35,9 @@ module _ (k : Kept) (s : Ready k) where
   pub long : k .state .t ≤ length (k .state .trackers)
   long = whole-facts (k .state) (s .0) .tracked .long
 
-  pub issue-keeps : (x : ℕ) (write bottom : Bool) (g v : ℕ) → Ready (kept (does k (issues x write bottom g v)))
+  pub issue-keeps : (x : ℕ) (access : Access) → Ready (kept (does k (issues x access)))
   unfolding does
-  issue-keeps x write bottom g v = ready-out _ _ _ _ (issue-kept (k .state) (k .bytes) (k .memory) (s .0) (s .1) x write bottom g v)
+  issue-keeps x access = ready-out _ _ _ _ (issue-kept (k .state) (k .bytes) (k .memory) (s .0) (s .1) x access)
 
   pub step-keeps : (x : ℕ) → Ready (kept (does k (steps x)))
   unfolding does

@@ -13,7 +13,7 @@ use Rattle.circle.specs.Circle.{becomes}
 
 -- the turns given to the access at each tracker, after a call that was not refused: an access just issued was given none, a step gives one more
 abbrev pub givenBy : Call → (ℕ → ℕ) → ℕ → ℕ
-givenBy (issues x write bottom g v) given = becomes given x 0
+givenBy (issues x access) given = becomes given x 0
 givenBy (steps x) given = becomes given x (suc (given x))
 givenBy drains given = given
 givenBy (lends bytes memory c) given = givenBy c given

@@ -12,6 +12,7 @@ use borrow.Author.Tests.{ltb-true, eq-eqb, ne-eqb}
 use borrow.Author.Tests.{not-true, ne-eqb}
 use Rattle.laws.specs.Refusal.{refusal, unless}
 use Rattle.laws.proofs.Refusal.{refusal-hold, refusal-other, unless-by}
+use Rattle.tracker.specs.declared.Access.{Access}
 use Rattle.rules.specs.Calls.{issueTests, stepTests, drainTests}
 use Rattle.laws.specs.Choice.{pick, both, no as negated}
 use Rattle.laws.proofs.Choice.{not-both-ways}
@@ -152,22 +153,22 @@ idle-none : (p : Phase) → isIdleAt p ≡ true → toCome p ≡ 0
 idle-none p e = rw e
 
 module _ (f : Flat) where
-  issue-lawful : (y : ℕ) (write bottom : Bool) (g v : ℕ) → ltb y (f .t) ≡ true → isIdle (trackerAt (f .trackers) y) ≡ true
-      → Lawful f (issues y write bottom g v) (record { said = ok; flat = withRow f (f .row) y (issued write bottom g v); effect = [] })
-  issue-lawful y write bottom g v yl e = record {
+  issue-lawful : (y : ℕ) (access : Access) → ltb y (f .t) ≡ true → isIdle (trackerAt (f .trackers) y) ≡ true
+      → Lawful f (issues y access) (record { said = ok; flat = withRow f (f .row) y (issued access); effect = [] })
+  issue-lawful y access yl e = record {
     row-is = sym (inOrder-none (f .row));
     t-is = refl;
-    long-is = length-set (f .trackers) y (issued write bottom g v);
+    long-is = length-set (f .trackers) y (issued access);
     once = λ x q. go x q (ℕ-discrete y x);
     not-4 = refl;
   }
     where
       go : (x : ℕ) → f .t ≤ length (f .trackers) → Dec (y ≡ x)
-          → momentsOf x [] + toCome (trackerAt (set (f .trackers) y (issued write bottom g v)) x .phase) ≡ pick (eqb y x) 1 0 + toCome (trackerAt (f .trackers) x .phase)
+          → momentsOf x [] + toCome (trackerAt (set (f .trackers) y (issued access)) x .phase) ≡ pick (eqb y x) 1 0 + toCome (trackerAt (f .trackers) x .phase)
       go x q (yes d) =
           let yt : y < f .t = ltb-true y (f .t) yl in
-          rw (← d, getD-set-same (f .trackers) y (issued write bottom g v) idle (omega arith), eq-eqb y y refl, first-to-come bottom, idle-none (trackerAt (f .trackers) y .phase) e, moments-none y)
-      go x q (no d) = rw (getD-set-other (f .trackers) y x (issued write bottom g v) idle (λ z. d (sym z)), ne-eqb y x d, moments-none x)
+          rw (← d, getD-set-same (f .trackers) y (issued access) idle (omega arith), eq-eqb y y refl, first-to-come (access .bottom), idle-none (trackerAt (f .trackers) y .phase) e, moments-none y)
+      go x q (no d) = rw (getD-set-other (f .trackers) y x (issued access) idle (λ z. d (sym z)), ne-eqb y x d, moments-none x)
 
   module _ (found : Bool) (y : ℕ) (yl : ltb y (f .t) ≡ true) (busy : isIdle (trackerAt (f .trackers) y) ≡ false) where
     abbrev t : Tracker
@@ -221,17 +222,17 @@ module _ (f : Flat) where
     not-4 = w .not-4;
   }
 
-  issues-lawful : (found : Bool) (x : ℕ) (write bottom : Bool) (g v : ℕ) → Lawful f (issues x write bottom g v) (flatDoes f found (issues x write bottom g v))
+  issues-lawful : (found : Bool) (x : ℕ) (access : Access) → Lawful f (issues x access) (flatDoes f found (issues x access))
   unfolding flatDoes flatIssue
-  issues-lawful found x write bottom g v = unless-by _ _ (Lawful f (issues x write bottom g v))
-      (λ e. let h = refusal-hold (issueTests (f .n) (f .t) x g (trackerAt (f .trackers) x)) refl e in issue-lawful x write bottom g v (h .0) (h .1 .1 .0))
-      (λ h. refuse-lawful f _ _ (ne-eqb _ 4 (refusal-other (issueTests (f .n) (f .t) x g (trackerAt (f .trackers) x)) 4 refl (omega arith))))
+  issues-lawful found x access = unless-by _ _ (Lawful f (issues x access))
+      (λ e. let h = refusal-hold (issueTests (f .n) (f .t) x access (f .trackers)) refl e in issue-lawful x access (h .0) (h .1 .1 .0))
+      (λ h. refuse-lawful f _ _ (ne-eqb _ 4 (refusal-other (issueTests (f .n) (f .t) x access (f .trackers)) 4 refl (omega arith))))
 
   steps-lawful : (found : Bool) (x : ℕ) → Lawful f (steps x) (flatDoes f found (steps x))
   unfolding flatDoes flatStep
   steps-lawful found x = unless-by _ _ (Lawful f (steps x))
-      (λ e. let h = refusal-hold (stepTests (f .t) x (trackerAt (f .trackers) x)) refl e in step-lawful found x (h .0) (not-true _ (h .1 .0)))
-      (λ h. refuse-lawful f _ _ (ne-eqb _ 4 (refusal-other (stepTests (f .t) x (trackerAt (f .trackers) x)) 4 refl (omega arith))))
+      (λ e. let h = refusal-hold (stepTests (f .t) x (f .trackers)) refl e in step-lawful found x (h .0) (not-true _ (h .1 .0)))
+      (λ h. refuse-lawful f _ _ (ne-eqb _ 4 (refusal-other (stepTests (f .t) x (f .trackers)) 4 refl (omega arith))))
 
   drains-lawful : (found : Bool) → Lawful f drains (flatDoes f found drains)
   unfolding flatDoes flatDrain
@@ -242,7 +243,7 @@ module _ (f : Flat) where
   lent-lawful found b m c w = pick-by (Lawful f (lends b m c)) (lengthsRight (f .n) (f .l) b m) (λ _. lends-lawful b m c (flatDoes f found c) w) (λ _. refuse-lawful f _ 2 refl)
 
   pub lawful : (found : Bool) (c : Call) → Lawful f c (flatDoes f found c)
-  lawful found (issues x write bottom g v) = issues-lawful found x write bottom g v
+  lawful found (issues x access) = issues-lawful found x access
   lawful found (steps x) = steps-lawful found x
   lawful found drains = drains-lawful found
   lawful found (lends b m c) = lent-lawful found b m c (lawful found c)

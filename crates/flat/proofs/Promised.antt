@@ -12,7 +12,7 @@ use Rattle.flat.proofs.Demand.{fresh-is-flat, opened-is-flat}
 pub promised-says : {k k' : Kept} {cs : List Call} {said : List Said} → Promised k cs said k' → said ≡ answers k cs
 unfolding does answers
 promised-says over = refl
-promised-says (issued o x write bottom g v e p) = rw (promised-says p, e)
+promised-says (issued o x access e p) = rw (promised-says p, e)
 promised-says (stepped o x e p) = rw (promised-says p, e)
 promised-says (drained o e p) = rw (promised-says p, e)
 promised-says (lent o b m c w e p) = rw (promised-says p, e, w)
@@ -20,7 +20,7 @@ promised-says (lent o b m c w e p) = rw (promised-says p, e, w)
 pub promised-leaves : {k k' : Kept} {cs : List Call} {said : List Said} → Promised k cs said k' → k' ≡ ended k cs
 unfolding does ended
 promised-leaves over = refl
-promised-leaves (issued o x write bottom g v e p) = promised-leaves p ∙ rw e
+promised-leaves (issued o x access e p) = promised-leaves p ∙ rw e
 promised-leaves (stepped o x e p) = promised-leaves p ∙ rw e
 promised-leaves (drained o e p) = promised-leaves p ∙ rw e
 promised-leaves (lent o b m c w e p) = promised-leaves p ∙ rw (e, w)

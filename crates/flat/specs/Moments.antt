@@ -16,7 +16,7 @@ toCome p = pick (isIdleAt p) 0 (pick (atFinish p) 0 1)
 
 -- 1 for a call that issues an access to tracker x, where it says ok
 abbrev pub issueTo : ℕ → Said → Call → ℕ
-issueTo x ok (issues y write bottom g v) = pick (eqb y x) 1 0
+issueTo x ok (issues y access) = pick (eqb y x) 1 0
 issueTo x ok (steps y) = 0
 issueTo x ok drains = 0
 issueTo x ok (lends b m c) = issueTo x ok c

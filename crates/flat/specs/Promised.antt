@@ -4,6 +4,7 @@ use mathlib.Core.Path.{_≡_}
 use mathlib.Core.List.{List, [], _∷_}
 use mathlib.Core.Bool.{Bool, false}
 use Prim.Native.Nat.{ℕ}
+use Rattle.tracker.specs.declared.Access.{Access}
 use Rattle.tracker.specs.Answer.{Said}
 use Rattle.rules.specs.State.{lengthsRight}
 use Rattle.rules.specs.Calls.{Out, issue, step, drain}
@@ -13,8 +14,8 @@ use Rattle.flat.specs.Demand.{Flatly}
 -- The calls cs, made one after the other, said what is listed: o is what a call did, its promise is the equation, and its state and bytes are passed on.
 pub data Promised : Kept → List Call → List Said → Kept → Type 0 where
   over : {k : Kept} → Promised k [] [] k
-  issued : {k k' : Kept} {cs : List Call} {said : List Said} (o : Out) (x : ℕ) (write bottom : Bool) (g v : ℕ)
-      → o ≡ issue (k .state) (k .bytes) (k .memory) x write bottom g v → Promised (kept o) cs said k' → Promised k (issues x write bottom g v ∷ cs) (o .said ∷ said) k'
+  issued : {k k' : Kept} {cs : List Call} {said : List Said} (o : Out) (x : ℕ) (access : Access)
+      → o ≡ issue (k .state) (k .bytes) (k .memory) x access → Promised (kept o) cs said k' → Promised k (issues x access ∷ cs) (o .said ∷ said) k'
   stepped : {k k' : Kept} {cs : List Call} {said : List Said} (o : Out) (x : ℕ)
       → o ≡ step (k .state) (k .bytes) (k .memory) x → Promised (kept o) cs said k' → Promised k (steps x ∷ cs) (o .said ∷ said) k'
   drained : {k k' : Kept} {cs : List Call} {said : List Said} (o : Out)

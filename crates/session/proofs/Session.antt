@@ -1,6 +1,6 @@
 -- Every session that begins with an accepted fresh or open is a run that demand 2 speaks of.
 use mathlib.Core.Path.{_≡_}
-use mathlib.Core.List.{List, []}
+use mathlib.Core.List.{List}
 use Prim.Native.Nat.{ℕ}
 use Rattle.tracker.specs.declared.Answer.{Answer}
 use Rattle.tracker.specs.Answer.{ok, says}
@@ -18,19 +18,19 @@ use Rattle.session.specs.Session.{Met, issued, stepped, drained, Session
 -- a promise is the rules' own call
 met-does : {s : State} {b m b' m' : List ℕ} {c : Call} {r : Out} → Met s b m c r b' m' → did r b' m' ≡ does (keptOf s b m) c
 unfolding does
-met-does (issued r x write bottom g v q e) = e
+met-does (issued r x access q e) = e
 met-does (stepped r b' m' x e) = e
 met-does (drained r m' e) = e
 
 met-value : {s : State} {b m b' m' : List ℕ} {c : Call} {r : Out} → Met s b m c r b' m' → Value32 c
-met-value (issued r x write bottom g v q e) = q
+met-value (issued r x access q e) = q
 met-value (stepped r b' m' x e) = tt
 met-value (drained r m' e) = tt
 
 pub session-promised : {s s' : State} {b m b' m' : List ℕ} {cs : List Call} {answers : List Answer} → Session s b m cs answers s' b' m' → Promised (keptOf s b m) cs (said answers) (keptOf s' b' m')
 unfolding said
 session-promised over = Promised.over
-session-promised {b = b} {m = m} (then (issued r x write bottom g v q e) p) = Promised.issued (did r b m) x write bottom g v e (session-promised p)
+session-promised {b = b} {m = m} (then (issued r x access q e) p) = Promised.issued (did r b m) x access e (session-promised p)
 session-promised (then (stepped r b1 m1 x e) p) = Promised.stepped (did r b1 m1) x e (session-promised p)
 session-promised {b = b} (then (drained r m1 e) p) = Promised.drained (did r b m1) e (session-promised p)
 session-promised (lent c r b0 m0 b1 m1 w e p) = Promised.lent (did r b1 m1) b0 m0 c w (met-does e) (session-promised p)

@@ -1,8 +1,9 @@
 -- Calls of the code, one after the other: each met its promise, and its state and its lent bytes go into the next.
 use mathlib.Core.Path.{_≡_}
-use mathlib.Core.Bool.{Bool, false}
+use mathlib.Core.Bool.{false}
 use mathlib.Core.List.{List, [], _∷_}
 use Prim.Native.Nat.{ℕ, _<_}
+use Rattle.tracker.specs.declared.Access.{Access}
 use Rattle.tracker.specs.declared.Answer.{Answer}
 use Rattle.tracker.specs.Answer.{Said, says}
 use Rattle.rules.specs.State.{lengthsRight}
@@ -14,7 +15,7 @@ use Rattle.cache.specs.Seen.{seen, did}
 
 -- One call on the state s that was lent b and m, as the code promises it: it handed back r and left the bytes b' and m'. A value is a u32.
 pub data Met (s : State) (b m : List ℕ) : Call → Out → (b' m' : List ℕ) → Type 0 where
-  issued : (r : Out) (x : ℕ) (write bottom : Bool) (g v : ℕ) → v < 4294967296 → did r b m ≡ issue (seen s) b m x write bottom g v → Met s b m (issues x write bottom g v) r b m
+  issued : (r : Out) (x : ℕ) (access : Access) → access .value < 4294967296 → did r b m ≡ issue (seen s) b m x access → Met s b m (issues x access) r b m
   stepped : (r : Out) (b' m' : List ℕ) (x : ℕ) → did r b' m' ≡ step (seen s) b m x → Met s b m (steps x) r b' m'
   drained : (r : Out) (m' : List ℕ) → did r b m' ≡ drain (seen s) b m → Met s b m drains r b m'
 
