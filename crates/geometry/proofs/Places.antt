@@ -1,45 +1,97 @@
 -- Every place lies inside the memory: groups below 16n in its leaves, the bits of all leaves in its map blocks.
-use mathlib.Core.Path.{_≡_}
-use Prim.Native.Nat.{ℕ, _+_, _*_, _/_, _≤_, _<_}
+use mathlib.Core.Path.{_≡_, refl}
+use Prim.Native.Nat.{ℕ, _+_, _*_, _/_, _%_, _≤_, _<_}
 use native.Mathlib.Omega.{arith}
-use Rattle.geometry.specs.TagMemory.{leafOf, byteOf, mapBlockOf, mapByteOf, mapBitOf, mapBlocks, blocks, memoryLength, blockPlace, groupPlace, mapPlace}
+use mathlib.Core.Logic.{_⊎_, inl, inr, ⊎-elim}
+use Rattle.laws.proofs.Splice.{lt-or-ge}
+use Rattle.geometry.specs.TagMemory.{leafOf, byteOf, groups, groupOn, mapBlockOf, mapByteOf, mapBitOf, mapBlocks, blocks, memoryLength, blockPlace, groupPlace, mapPlace}
 
 -- a group below 16n has its leaf among the n
-pub leafOf-lt : (n g : ℕ) → g < 16 * n → leafOf g < n
+pub leafOf-lt : (n g : ℕ) → g < groups n → leafOf g < n
+unfolding leafOf groups
 leafOf-lt n g h = omega arith
 
 -- and no other group has
-pub leafOf-ge : (n g : ℕ) → 16 * n ≤ g → n ≤ leafOf g
+pub leafOf-ge : (n g : ℕ) → groups n ≤ g → n ≤ leafOf g
+unfolding leafOf groups
 leafOf-ge n g h = omega arith
+
+-- a group below 16n, from its leaf
+pub group-lt : (n g : ℕ) → leafOf g < n → g < groups n
+unfolding leafOf groups
+group-lt n g h = omega arith
+
+-- the groups of leaf k
+pub leafOf-groupOn : (k j : ℕ) → j < 16 → leafOf (groupOn k j) ≡ k
+unfolding leafOf groups
+leafOf-groupOn k j h = omega arith
+
+pub byteOf-groupOn : (k j : ℕ) → j < 16 → byteOf (groupOn k j) ≡ 4 * j
+unfolding byteOf groups
+byteOf-groupOn k j h = omega arith
+
+-- a group's number in its leaf
+pub slotOf : ℕ → ℕ
+slotOf g = g % 16
+
+pub slotOf-lt : (g : ℕ) → slotOf g < 16
+unfolding slotOf
+slotOf-lt g = omega arith
+
+pub groupOn-slotOf : (g : ℕ) → groupOn (leafOf g) (slotOf g) ≡ g
+unfolding leafOf groups slotOf
+groupOn-slotOf g = omega arith
+
+pub byteOf-slotOf : (g : ℕ) → byteOf g ≡ 4 * slotOf g
+unfolding byteOf slotOf
+byteOf-slotOf g = refl
+
+-- two groups of a leaf have bytes apart
+pub byteOf-apart : (g h : ℕ) → leafOf g ≡ leafOf h → (g ≡ h → ⊥) → (byteOf g + 4 ≤ byteOf h) ⊎ (byteOf h + 4 ≤ byteOf g)
+unfolding leafOf byteOf
+byteOf-apart g h e d = ⊎-elim (λ q. inl (let r : g % 16 < h % 16 = q in omega arith)) (λ q. inr (omega arith)) (lt-or-ge (g % 16) (h % 16))
 
 -- a group's four bytes lie in its leaf
 pub byteOf-lt : (g : ℕ) → byteOf g + 4 ≤ 64
+unfolding byteOf
 byteOf-lt g = omega arith
+
+-- there are no more map blocks than leaves
+pub mapBlocks-most : (n : ℕ) → mapBlocks n ≤ n
+unfolding mapBlocks
+mapBlocks-most n = omega arith
 
 -- a leaf below n has its bit in one of the map blocks
 pub mapBlockOf-lt : (n k : ℕ) → k < n → mapBlockOf k < mapBlocks n
+unfolding mapBlockOf mapBlocks
 mapBlockOf-lt n k h = omega arith
 
 -- and so has every bit of the map blocks
 pub mapBlockOf-bit : (n k : ℕ) → k < 512 * mapBlocks n → mapBlockOf k < mapBlocks n
+unfolding mapBlockOf mapBlocks
 mapBlockOf-bit n k h = omega arith
 
 -- the map blocks have a bit for each leaf
 pub leaf-has-bit : (n k : ℕ) → k < n → k < 512 * mapBlocks n
+unfolding mapBlocks
 leaf-has-bit n k h = omega arith
 
 pub mapByteOf-lt : (k : ℕ) → mapByteOf k < 64
+unfolding mapByteOf
 mapByteOf-lt k = omega arith
 
 pub mapBitOf-lt : (k : ℕ) → mapBitOf k < 8
+unfolding mapBitOf
 mapBitOf-lt k = omega arith
 
 -- the map's bytes follow each other, a bit for each leaf
 pub mapPlace-is : (n k : ℕ) → mapPlace n k ≡ 64 * n + k / 8
+unfolding mapBlockOf mapByteOf
 mapPlace-is n k = omega arith
 
 -- a place tells its leaf: byte and bit together
 pub mapPlace-same : (n k l : ℕ) → mapPlace n k ≡ mapPlace n l → mapBitOf k ≡ mapBitOf l → k ≡ l
+unfolding mapBlockOf mapByteOf mapBitOf
 mapPlace-same n k l p b = omega arith
 
 -- a block's 64 bytes lie in memory
@@ -47,12 +99,24 @@ pub block-inside : (n b : ℕ) → b < blocks n → blockPlace b + 64 ≤ memory
 block-inside n b h = omega arith
 
 -- a group's four bytes lie in memory, before the map
-pub group-inside : (n g : ℕ) → g < 16 * n → groupPlace g + 4 ≤ blockPlace n
-group-inside n g h = omega arith
+pub group-inside : (n g : ℕ) → g < groups n → groupPlace g + 4 ≤ blockPlace n
+group-inside n g h = let k = leafOf-lt n g h in let b = byteOf-lt g in omega arith
 
 -- the byte of a bit lies in memory, in the map
 pub bit-inside : (n k : ℕ) → k < 512 * mapBlocks n → mapPlace n k < memoryLength n
+unfolding mapBlockOf mapByteOf mapBlocks
 bit-inside n k h = omega arith
 
 pub bit-after-leaves : (n k : ℕ) → blockPlace n ≤ mapPlace n k
+unfolding mapBlockOf mapByteOf
 bit-after-leaves n k = omega arith
+
+-- bits past the map's have no byte in memory
+pub bit-outside : (n k : ℕ) → 512 * mapBlocks n ≤ k → memoryLength n ≤ mapPlace n k
+unfolding mapBlockOf mapByteOf mapBlocks
+bit-outside n k h = omega arith
+
+-- block, byte and bit tell the leaf
+pub map-one : (j k : ℕ) → mapBlockOf j ≡ mapBlockOf k → mapByteOf j ≡ mapByteOf k → mapBitOf j ≡ mapBitOf k → j ≡ k
+unfolding mapBlockOf mapByteOf mapBitOf
+map-one j k a b c = omega arith

@@ -10,29 +10,40 @@ tagOf v zero = v % 16
 tagOf v (suc j) = tagOf (v / 16) j
 
 -- "Group g lies in leaf g / 16 (whole part) at byte 4 x (g mod 16)."
-abbrev pub leafOf : ℕ → ℕ
+unfoldable pub leafOf : ℕ → ℕ
 leafOf g = g / 16
 
-abbrev pub byteOf : ℕ → ℕ
+unfoldable pub byteOf : ℕ → ℕ
 byteOf g = 4 * (g % 16)
+
+-- the groups of n leaves; group j of leaf k
+unfoldable pub groups : ℕ → ℕ
+groups n = 16 * n
+
+abbrev pub groupOn : ℕ → ℕ → ℕ
+groupOn k j = groups k + j
 
 -- "There are n leaves, 1 to 262,144."
 unfoldable pub inLimits : ℕ → Bool
 inLimits n = both (leb 1 n) (leb n 262144)
 
 -- "Leaf k has its bit in map block k / 512, byte (k mod 512) / 8, bit k mod 8, bit 0 lowest."
-abbrev pub mapBlockOf : ℕ → ℕ
+unfoldable pub mapBlockOf : ℕ → ℕ
 mapBlockOf k = k / 512
 
-abbrev pub mapByteOf : ℕ → ℕ
+unfoldable pub mapByteOf : ℕ → ℕ
 mapByteOf k = k % 512 / 8
 
-abbrev pub mapBitOf : ℕ → ℕ
+unfoldable pub mapBitOf : ℕ → ℕ
 mapBitOf k = k % 8
 
 -- "Memory is the n leaves, then the map blocks: 64 x (n + n/512 rounded up) bytes."
-abbrev pub mapBlocks : ℕ → ℕ
+unfoldable pub mapBlocks : ℕ → ℕ
 mapBlocks n = (n + 511) / 512
+
+-- the bits of n map blocks
+unfoldable pub bitsOf : ℕ → ℕ
+bitsOf n = 512 * n
 
 abbrev pub blocks : ℕ → ℕ
 blocks n = n + mapBlocks n

@@ -2,7 +2,7 @@
 // No public function has a `requires`: the number of a leaf, a group or a block is 32 bits wide, and places are counted in 64.
 ghost use mathlib.Core.Path.{_≡_};
 ghost use Prim.Native.Nat.{_+_};
-ghost use Rattle.geometry.specs.TagMemory.{leafOf, byteOf, inLimits, mapBlockOf, mapByteOf, mapBitOf, mapBlocks, blocks, memoryLength, blockPlace, groupPlace, mapPlace};
+ghost use Rattle.geometry.specs.TagMemory.{leafOf, byteOf, groups, inLimits, mapBlockOf, mapByteOf, mapBitOf, mapBlocks, blocks, memoryLength, blockPlace, groupPlace, mapPlace};
 
 pub struct Geometry {}
 
@@ -43,6 +43,13 @@ impl Geometry {
         ensures { λ r. ⌜ r ≡ leafOf g ⌝ }
     {
         g / Self::GROUPS
+    }
+
+    // The groups of n leaves.
+    pub fn groups(n: u32) -> u64
+        ensures { λ r. ⌜ r ≡ groups n ⌝ }
+    {
+        Self::GROUPS as u64 * (n as u64)
     }
 
     // The place of group g's first byte in its leaf.

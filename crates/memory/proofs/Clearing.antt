@@ -8,6 +8,7 @@ use native.Mathlib.Omega.{arith}
 use borrow.Rule.Slice.PartMut.{putMid}
 use lib.ListN.{length, take, drop, getD, replicate, length-append, length-take, length-replicate, getD-replicate, List·getD-append, List·getD-eq-default}
 use lib.Seq.{take-all, getD-take, getD-append-add, length-take-le, ext-getD}
+use Rattle.geometry.specs.TagMemory.{groups}
 use Rattle.laws.proofs.Splice.{lt-or-ge, getD-part}
 use Rattle.geometry.specs.TagMemory.{tagOf, inLimits, memoryLength, blockPlace, mapPlace, mapBitOf, leafOf}
 use Rattle.geometry.proofs.Tags.{tagOf-0}
@@ -81,7 +82,8 @@ module _ (n : ℕ) (m : List ℕ) where
   pub clearedMap-group : (g : ℕ) → plainGroup n (clearedMap n m) g ≡ 0
   clearedMap-group g = plainGroup-0 n (clearedMap n m) g (no-bit (leafOf g))
 
-  pub clearedMap-reading : (g : ℕ) → inLimits n ≡ true → length m ≡ memoryLength n → g < 16 * n → plainReading n (clearedMap n m) g ≡ 0
+  pub clearedMap-reading : (g : ℕ) → inLimits n ≡ true → length m ≡ memoryLength n → g < groups n → plainReading n (clearedMap n m) g ≡ 0
+  unfolding groups
   clearedMap-reading g h l q = accepted n (clearedMap n m) g h (length-clearedMap ∙ l) q ∙ clearedMap-group g
 
   -- tag by tag

@@ -5,6 +5,7 @@ use mathlib.Core.Bool.{true, false}
 use Prim.Native.Nat.{ℕ, _*_, _≤_, _<_}
 use lib.ListN.{length}
 use borrow.Author.Tests.{eq-eqb, ne-eqb, lt-ltb, le-ltb}
+use Rattle.geometry.specs.TagMemory.{groups}
 use Rattle.geometry.specs.TagMemory.{inLimits, memoryLength, leafOf, groupPlace}
 use Rattle.block.specs.Block.{groupAt}
 use Rattle.memory.specs.PlainReading.{leafBit, plainGroup, plainReading}
@@ -27,9 +28,9 @@ module _ (n : ℕ) (m : List ℕ) (g : ℕ) where
   refused-2 h l = rw (h, ne-eqb _ _ l)
 
   pub refused-6 : inLimits n ≡ true → length m ≡ memoryLength n → 16 * n ≤ g → plainReading n m g ≡ 4294967302
-  unfolding plainReading
+  unfolding plainReading groups
   refused-6 h l q = rw (h, eq-eqb _ _ l, le-ltb _ _ q)
 
   pub accepted : inLimits n ≡ true → length m ≡ memoryLength n → g < 16 * n → plainReading n m g ≡ plainGroup n m g
-  unfolding plainReading
+  unfolding plainReading groups
   accepted h l q = rw (h, eq-eqb _ _ l, lt-ltb _ _ q)

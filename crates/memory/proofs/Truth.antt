@@ -8,6 +8,7 @@ use native.Mathlib.Omega.{arith}
 use lib.Dec.{eqb}
 use lib.ListN.{length, getD, List·getD-eq-default}
 use borrow.Author.Tests.{eq-eqb, ne-eqb, eqb-true, eqb-false, lt-ltb, le-ltb, not-true}
+use Rattle.geometry.proofs.Places.{mapPlace-is}
 use Rattle.laws.specs.Choice.{both, implies, no}
 use Rattle.laws.specs.Scan.{all}
 use Rattle.laws.proofs.Choice.{not-both-ways, true-or-false}
@@ -106,7 +107,7 @@ module _ (n : ℕ) (m : List ℕ) where
   pub trueByte-zero : (j : ℕ) → getD m (mapPlace n (8 * j)) 0 ≡ 0 → trueByte n m j ≡ true
   unfolding leafBit
   trueByte-zero j h = trueByte-is j (λ i l. trueAt-0 (8 * j + i) (λ b.
-      let e : mapPlace n (8 * j + i) ≡ mapPlace n (8 * j) = omega arith in
+      let e : mapPlace n (8 * j + i) ≡ mapPlace n (8 * j) = omega (arith, mapPlace-is n (8 * j + i), mapPlace-is n (8 * j)) in
       let z : bitAt m (mapPlace n (8 * j + i)) (mapBitOf (8 * j + i)) ≡ 0 = bitAt-zero m _ (mapBitOf (8 * j + i)) (rw e h) in
       omega arith))
 

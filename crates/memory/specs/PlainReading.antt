@@ -3,6 +3,7 @@ use mathlib.Core.List.{List}
 use Prim.Native.Nat.{ℕ, _+_, _*_}
 use lib.ListN.{length}
 use lib.Dec.{eqb, ltb}
+use Rattle.geometry.specs.TagMemory.{groups}
 use Rattle.laws.specs.Choice.{pick}
 use Rattle.geometry.specs.TagMemory.{leafOf, inLimits, memoryLength, mapBitOf, groupPlace, mapPlace}
 use Rattle.block.specs.Block.{groupAt, bitAt}
@@ -19,5 +20,5 @@ plainGroup n m g = pick (eqb (leafBit n m (leafOf g)) 1) (groupAt m (groupPlace 
 unfoldable pub plainReading : ℕ → List ℕ → ℕ → ℕ
 plainReading n m g =
     pick (inLimits n)
-    (pick (eqb (length m) (memoryLength n)) (pick (ltb g (16 * n)) (plainGroup n m g) (4294967296 + 6)) (4294967296 + 2))
+    (pick (eqb (length m) (memoryLength n)) (pick (ltb g (groups n)) (plainGroup n m g) (4294967296 + 6)) (4294967296 + 2))
     (4294967296 + 1)

@@ -23,15 +23,18 @@ map-blocks-requires : tie.Need-map-blocks-requires Inv-loop μ-loop
 map-blocks-requires c κs = search needs
 
 mul-end : tie.Need-mul-end Inv-loop μ-loop
+unfolding mapBlocks
 mul-end c = omega arith
 
 loop-holds : tie.Need-loop-holds Inv-loop μ-loop
 loop-holds c = (omega arith, omega arith, all-zero _)
 
 cast-byte-true : tie.Need-cast-byte-true Inv-loop μ-loop
+unfolding mapBlocks
 cast-byte-true c = omega arith
 
 byte-true-requires : tie.Need-byte-true-requires Inv-loop μ-loop
+unfolding mapBlocks
 byte-true-requires c κs = omega arith
 
 returns : tie.Need-returns Inv-loop μ-loop
@@ -41,6 +44,7 @@ returns c =
     sym (bytes-fail (st .args .n) (st .args .memory .now) (l .loop .j) (omega arith) (sym (c .before .byte-true .ensures) ∙ not-true _ (c .if1 .taken)))
 
 add-j : tie.Need-add-j Inv-loop μ-loop
+unfolding mapBlocks
 add-j c = search needs
 
 loop-less : tie.Need-loop-less Inv-loop μ-loop
