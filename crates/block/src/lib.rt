@@ -3,7 +3,7 @@
 use geometry::Geometry;
 ghost use mathlib.Core.Path.{_≡_};
 ghost use Prim.Native.Nat.{_+_, _*_, _^_, _≤_, _<_};
-ghost use lib.ListN.{length};
+ghost use lib.ListN.{length, replicate};
 ghost use Rattle.laws.specs.Choice.{pick};
 ghost use Rattle.laws.specs.Bytes.{part, splice, fits, putW, bytes, numberAt};
 ghost use Rattle.laws.specs.Bits.{bitOf, withBit};
@@ -151,6 +151,17 @@ pub fn all_zero(row: &[u8]) -> bool
         i += 1;
     }
     zero
+}
+
+// Every byte is made zero.
+pub fn clear(row: &mut [u8])
+    ensures { λ _. ⌜ now (row .exit) ≡ replicate (length (now (row .entry))) 0 ⌝ }
+{
+    let mut at = 0;
+    while at < row.len() {
+        row[at] = 0;
+        at += 1;
+    }
 }
 
 // Bit k of a byte, bit 0 lowest; 0 past the last.

@@ -41,6 +41,11 @@ unfolding both
 both-right true b h = h
 both-right false b h = absurd (not-both-ways h refl)
 
+pub either-true : (a b : Bool) → either a b ≡ true → (a ≡ true) ⊎ (b ≡ true)
+unfolding either
+either-true true b h = inl h
+either-true false b h = inr h
+
 pub no-true : (b : Bool) → no b ≡ true → b ≡ false
 unfolding no
 no-true true h = sym h
@@ -65,3 +70,14 @@ pub no-not : (b : Bool) → not b ≡ no b
 unfolding no
 no-not true = refl
 no-not false = refl
+
+pub not-implied : (a b : Bool) → implies a b ≡ false → (a ≡ true) × (b ≡ false)
+unfolding implies
+not-implied true b h = (refl, h)
+not-implied false b h = absurd (not-both-ways refl h)
+
+-- two tests that hold together are one
+pub same-truth : (a b : Bool) → (a ≡ true → b ≡ true) → (b ≡ true → a ≡ true) → a ≡ b
+same-truth true b f g = sym (f refl)
+same-truth false true f g = g refl
+same-truth false false f g = refl

@@ -1,13 +1,12 @@
--- Laws of a part that ends with its row, of rows of zeros, and of a tail that comes back as zeros.
+-- Laws of a part that ends with its row, and of a tail that comes back as zeros.
 use mathlib.Core.Path.{_≡_, sym, _∙_}
 use mathlib.Core.Bool.{true}
 use mathlib.Core.List.{List, [], _++_, append-nil}
-use Prim.Native.Nat.{ℕ, suc, _+_, _-_, _≤_, _<_}
-use native.Mathlib.Numerals.{add-one}
+use Prim.Native.Nat.{ℕ, _-_, _≤_, _<_}
 use native.Mathlib.Omega.{arith}
 use borrow.Rule.Slice.PartMut.{putMid}
-use lib.ListN.{length, take, drop, getD, set, replicate, length-take, length-drop, length-replicate, replicate-append-replicate, drop-of-length-le}
-use lib.Seq.{take-all, take-nil, drop-cons, set-at, append-snoc}
+use lib.ListN.{length, take, drop, replicate, length-take, length-drop, drop-of-length-le}
+use lib.Seq.{take-all, take-nil}
 use Rattle.laws.specs.Bytes.{part}
 use Rattle.block.specs.Block.{allZero}
 use Rattle.block.proofs.Zero.{allZero-is}
@@ -24,12 +23,6 @@ part-tail m a w h =
     let e : length (drop a m) ≤ length m - a = simp length-drop (omega arith) in
     let f : length (drop a m) ≤ w = simp length-drop (omega arith) in
     take-all (length m - a) (drop a m) e ∙ sym (take-all w (drop a m) f)
-
--- a turn of clearing from the front
-pub zeros-more : (s : List ℕ) (i : ℕ) → i < length s → set (replicate i 0 ++ drop i s) i 0 ≡ replicate (i + 1) 0 ++ drop (i + 1) s
-zeros-more s i h =
-    rw (drop-cons s i 0 h, set-at (replicate i 0) (getD s i 0) (drop (suc i) s) 0 i (length-replicate i 0), ← replicate-append-replicate {A = ℕ} i 1 0, add-one)
-    (sym (append-snoc (replicate i 0) 0 (drop (suc i) s)))
 
 -- the tail `&mut m[a..]`, that comes back as zeros
 pub zeros-is : (m : List ℕ) (a : ℕ) → a ≤ length m

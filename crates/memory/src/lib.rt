@@ -3,7 +3,6 @@
 use geometry::Geometry;
 ghost use mathlib.Core.Path.{_≡_};
 ghost use Prim.Native.Nat.{_+_, _*_, _≤_};
-ghost use lib.ListN.{length, replicate};
 ghost use Rattle.laws.specs.Bytes.{part};
 ghost use Rattle.block.specs.Block.{allZero};
 ghost use Rattle.memory.specs.PlainReading.{leafBit, plainGroup, plainReading};
@@ -109,17 +108,6 @@ pub fn is_true(n: u32, memory: &[u8]) -> bool
     true
 }
 
-// Every byte is made zero.
-fn clear(row: &mut [u8])
-    ensures { λ _. ⌜ now (row .exit) ≡ replicate (length (now (row .entry))) 0 ⌝ }
-{
-    let mut at = 0;
-    while at < row.len() {
-        row[at] = 0;
-        at += 1;
-    }
-}
-
 // Every map byte of a memory of n leaves is made zero; the leaves stay as they are.
 pub fn clear_map(n: u32, memory: &mut [u8])
     ensures { λ _. ⌜ now (memory .exit) ≡ clearedMap n (now (memory .entry)) ⌝ }
@@ -128,5 +116,5 @@ pub fn clear_map(n: u32, memory: &mut [u8])
     if memory.len() <= at {
         return;
     }
-    clear(&mut memory[at..]);
+    block::clear(&mut memory[at..]);
 }

@@ -4,11 +4,11 @@ use mathlib.Core.List.{_++_, append-nil}
 use Prim.Native.Nat.{_-_, _≤_}
 use native.Mathlib.Omega.{arith}
 use borrow.Author.Needs.{needs}
+use borrow.Author.Fill.{fill-more}
 use lib.ListN.{length, drop, replicate, length-set}
 use lib.Seq.{drop-length}
-use Rattle.memory.proofs.Parts.{zeros-more}
-use Rattle.memory.proofs.clear.Statement.{statement}
-use Rattle.memory.proofs.clear.Tie as tie
+use Rattle.block.proofs.clear.Statement.{statement}
+use Rattle.block.proofs.clear.Tie as tie
 
 abbrev Inv-loop : tie.InvT-loop
 Inv-loop row₀ at₀ row at = (at ≤ length row₀) × (row ≡ replicate at 0 ++ drop at row₀) × (length row ≡ length row₀)
@@ -31,7 +31,7 @@ loop-less c = search needs
 loop-again : tie.Need-loop-again Inv-loop μ-loop
 loop-again c =
     let l = c .before in
-    (search needs, rw (l .loop .inv .1) (zeros-more (l .before .args .row .now) (l .loop .at) (omega arith)), simp length-set (search needs))
+    (search needs, rw (l .loop .inv .1) (fill-more (l .loop .at) 0 (l .before .args .row .now) (omega arith)), simp length-set (search needs))
 
 same-length : tie.Need-same-length Inv-loop μ-loop
 same-length c = search needs

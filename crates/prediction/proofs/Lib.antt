@@ -1,0 +1,10 @@
+pub mod RunsOf
+pub mod Bits
+pub mod Groups
+pub mod Under
+pub mod Refusals
+pub mod Agrees
+pub mod Flat
+pub mod Synchronising
+pub mod Beside
+pub mod Worked
