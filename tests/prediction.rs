@@ -1,12 +1,20 @@
 //! The four calls of prediction bits in libmodel.a against a model of them: long sequences
 //! from fresh, any bytes, every refusal. After each call the answer and everything lent are
-//! compared, with guard bytes on both sides. In sequences the paper's three claims are
-//! looked at too. `prediction [SEED]`; ends with `prediction: N calls`, status 1 on the
-//! first difference.
+//! compared. In sequences the paper's three claims are looked at too. `prediction DRIVER
+//! [SEED]`, in the root of the repository, with the driver of `tests/prediction_calls.c`;
+//! ends with `prediction: N calls`, status 1 on the first difference.
 
+mod driver;
 mod model;
 
+use driver::Argument::{Change, Number, Read};
+use driver::{Driver, Function, Slice};
 use model::draw::Random;
+
+const FRESH: Function = Function(0, "tag_predict_fresh");
+const READ: Function = Function(1, "tag_predict_read");
+const WRITE: Function = Function(2, "tag_predict_write");
+const SYNC: Function = Function(3, "tag_predict_sync");
 
 /// E13 of document 02 in plain Rust, in its words and from them alone: groups are a list of
 /// numbers, bits a list of truths, a run is a chunk of the groups.
@@ -105,86 +113,51 @@ mod paper {
 
 use paper::Call;
 
-extern "C" {
-    fn tag_predict_fresh(n: u64, c: u64, tags: *mut u8, tags_length: usize, bits: *mut u8, bits_length: usize) -> u64;
-    fn tag_predict_read(n: u64, c: u64, tags: *const u8, tags_length: usize, bits: *const u8, bits_length: usize, g: u64) -> u64;
-    fn tag_predict_write(n: u64, c: u64, tags: *mut u8, tags_length: usize, bits: *mut u8, bits_length: usize, g: u64, v: u32) -> u64;
-    fn tag_predict_sync(n: u64, c: u64, tags: *const u8, tags_length: usize, bits: *mut u8, bits_length: usize, r: u64) -> u64;
-}
-
-const GUARD: usize = 16;
-const MARK: u8 = 0xa5;
-
-/// Lent bytes between guard bytes.
-struct Row {
-    bytes: Vec<u8>,
-}
-
-impl Row {
-    fn of(content: &[u8]) -> Row {
-        let mut bytes = vec![MARK; content.len() + 2 * GUARD];
-        bytes[GUARD..GUARD + content.len()].copy_from_slice(content);
-        Row { bytes }
-    }
-
-    fn length(&self) -> usize {
-        self.bytes.len() - 2 * GUARD
-    }
-
-    fn pointer(&mut self) -> *mut u8 {
-        self.bytes[GUARD..].as_mut_ptr()
-    }
-
-    fn is(&self, content: &[u8]) -> bool {
-        let end = GUARD + content.len();
-        self.bytes.len() == end + GUARD
-            && &self.bytes[GUARD..end] == content
-            && self.bytes[..GUARD].iter().chain(&self.bytes[end..]).all(|&byte| byte == MARK)
-    }
-}
-
-/// The library's lent bytes and the model's, which are to be the same.
-struct Both {
+/// The library's lent bytes, in two slots of the driver, and the model's, which are to be the
+/// same.
+struct Both<'a> {
+    driver: &'a mut Driver,
     n: u64,
     c: u64,
-    tags: Row,
-    bits: Row,
+    tags: Slice,
+    bits: Slice,
     model_tags: Vec<u8>,
     model_bits: Vec<u8>,
     calls: u64,
 }
 
-impl Both {
-    fn of(n: u64, c: u64, tags: Vec<u8>, bits: Vec<u8>) -> Both {
-        Both { n, c, tags: Row::of(&tags), bits: Row::of(&bits), model_tags: tags, model_bits: bits, calls: 0 }
+impl Both<'_> {
+    fn of(driver: &mut Driver, n: u64, c: u64, model_tags: Vec<u8>, model_bits: Vec<u8>) -> Both<'_> {
+        let (tags, bits) = (driver.put(0, &model_tags), driver.put(1, &model_bits));
+        Both { driver, n, c, tags, bits, model_tags, model_bits, calls: 0 }
     }
 
-    /// One call by both: the answer, after it and everything lent were compared.
+    /// One call by both: the model's answer, which the library's is compared with, as is
+    /// everything lent.
     fn call(&mut self, call: Call) -> u64 {
         let (n, c) = (self.n, self.c);
-        let (tags, t) = (self.tags.pointer(), self.tags.length());
-        let (bits, b) = (self.bits.pointer(), self.bits.length());
-        let got = unsafe {
-            match call {
-                Call::Fresh => tag_predict_fresh(n, c, tags, t, bits, b),
-                Call::Read(g) => tag_predict_read(n, c, tags, t, bits, b, g),
-                Call::Write(g, v) => tag_predict_write(n, c, tags, t, bits, b, g, v),
-                Call::Sync(r) => tag_predict_sync(n, c, tags, t, bits, b, r),
-            }
-        };
         let expected = paper::does(n, c, &mut self.model_tags, &mut self.model_bits, call);
-        let what = format!("n {n}, c {c}, lengths {t} and {b}, {call:?}");
-        if got != expected {
-            difference(format!("{what}: {got}, the model {expected}"));
-        }
-        if !self.tags.is(&self.model_tags) {
-            difference(format!("{what}: other tags than the model's"));
-        }
-        if !self.bits.is(&self.model_bits) {
-            difference(format!("{what}: other bits than the model's"));
-        }
+        let (tags, bits) = (self.tags.clone(), self.bits.clone());
+        let (numbers, tags_after, bits_after) = (
+            [Number(n), Number(c)],
+            self.model_tags.clone(),
+            self.model_bits.clone(),
+        );
+        let (function, lent, last, changed) = match call {
+            Call::Fresh => (FRESH, [Change(tags), Change(bits)], vec![], vec![tags_after, bits_after]),
+            Call::Read(g) => (READ, [Read(tags), Read(bits)], vec![Number(g)], vec![]),
+            Call::Write(g, v) => (
+                WRITE,
+                [Change(tags), Change(bits)],
+                vec![Number(g), Number(v as u64)],
+                vec![tags_after, bits_after],
+            ),
+            Call::Sync(r) => (SYNC, [Read(tags), Change(bits)], vec![Number(r)], vec![bits_after]),
+        };
+        let arguments = numbers.into_iter().chain(lent).chain(last).collect();
+        self.driver.call(function, arguments, expected, changed);
         self.calls += 1;
-        got
+        expected
     }
 }
 
@@ -222,11 +195,11 @@ fn drawn(random: &mut Random, n: u64, c: u64) -> Call {
 /// "reads equal the flat row over any sequence, .. a non-zero group never lies under bit 0,
 /// and .. once all runs are synchronised, with no write since the first, every bit 1 has
 /// one under it".
-fn sequence(random: &mut Random, n: u64, c: u64, calls: u64) -> u64 {
+fn sequence(driver: &mut Driver, random: &mut Random, n: u64, c: u64, calls: u64) -> u64 {
     let (mut tags, mut bits) = (vec![0; 64 * n as usize], vec![0; paper::bits_length(n, c) as usize]);
     random.fill(&mut tags);
     random.fill(&mut bits);
-    let mut both = Both::of(n, c, tags, bits);
+    let mut both = Both::of(driver, n, c, tags, bits);
     let mut row = vec![0u32; 16 * n as usize];
     both.call(Call::Fresh);
     for _ in 0..calls {
@@ -273,7 +246,7 @@ fn over_tags(both: &Both) {
 }
 
 /// Any bytes of the right lengths, each call on them.
-fn any_bytes(random: &mut Random, n: u64, c: u64, rounds: u64) -> u64 {
+fn any_bytes(driver: &mut Driver, random: &mut Random, n: u64, c: u64, rounds: u64) -> u64 {
     let mut calls = 0;
     for _ in 0..rounds {
         let (mut tags, mut bits) = (vec![0; 64 * n as usize], vec![0; paper::bits_length(n, c) as usize]);
@@ -281,7 +254,7 @@ fn any_bytes(random: &mut Random, n: u64, c: u64, rounds: u64) -> u64 {
             random.fill(&mut tags);
         }
         random.fill(&mut bits);
-        let mut both = Both::of(n, c, tags, bits);
+        let mut both = Both::of(driver, n, c, tags, bits);
         for _ in 0..8 {
             both.call(drawn(random, n, c));
         }
@@ -294,7 +267,7 @@ fn any_bytes(random: &mut Random, n: u64, c: u64, rounds: u64) -> u64 {
 }
 
 /// Numbers at the limits, other c, other lengths, and all of them at once.
-fn refusals(random: &mut Random) -> u64 {
+fn refusals(driver: &mut Driver, random: &mut Random) -> u64 {
     let mut calls = 0;
     for n in [0, 1, 2, 3, 7, 262_145, 1 << 32, (1 << 32) + 1, 1 << 58, u64::MAX] {
         for c in [0, 1, 2, 3, 4, 5, 7, 8, 12, 15, 16, 17, 31, 32, 33, 64, (1 << 32) + 4, u64::MAX] {
@@ -305,7 +278,7 @@ fn refusals(random: &mut Random) -> u64 {
                     let (mut tag_bytes, mut bit_bytes) = (vec![0; tags as usize], vec![0; bits as usize]);
                     random.fill(&mut tag_bytes);
                     random.fill(&mut bit_bytes);
-                    let mut both = Both::of(n, c, tag_bytes, bit_bytes);
+                    let mut both = Both::of(driver, n, c, tag_bytes, bit_bytes);
                     for number in [0, 15, 16, 16u64.wrapping_mul(n), 1 << 32, u64::MAX] {
                         both.call(Call::Read(number));
                         both.call(Call::Write(number, value(random)));
@@ -321,20 +294,22 @@ fn refusals(random: &mut Random) -> u64 {
 }
 
 fn main() {
-    let seed = std::env::args().nth(1).map_or(1, |word| word.parse().expect("a seed"));
-    let mut random = Random(seed);
-    let mut calls = refusals(&mut random);
+    let mut words = std::env::args().skip(1);
+    let mut driver = Driver::start("prediction", &words.next().expect("prediction DRIVER [SEED]"));
+    let mut random = Random(words.next().map_or(1, |word| word.parse().expect("a seed")));
+    let mut calls = refusals(&mut driver, &mut random);
     for c in [4, 8, 16, 32] {
         for n in [1, 2, 3, 5, 7, 8, 9, 15, 17] {
-            calls += sequence(&mut random, n, c, 30_000);
-            calls += any_bytes(&mut random, n, c, 300);
+            calls += sequence(&mut driver, &mut random, n, c, 30_000);
+            calls += any_bytes(&mut driver, &mut random, n, c, 300);
         }
         for n in [33, 63, 64, 65] {
-            calls += sequence(&mut random, n, c, 3_000);
+            calls += sequence(&mut driver, &mut random, n, c, 3_000);
         }
-        calls += any_bytes(&mut random, 262_144, c, 1);
-        calls += any_bytes(&mut random, 262_143, c, 1);
+        calls += any_bytes(&mut driver, &mut random, 262_144, c, 1);
+        calls += any_bytes(&mut driver, &mut random, 262_143, c, 1);
     }
+    driver.finish();
     println!("prediction: {calls} calls");
     if calls < 1_000_000 {
         std::process::exit(1);
