@@ -3,6 +3,7 @@ use mathlib.Core.Path.{_≡_, sym, ap, _∙_}
 use mathlib.Core.List.{List}
 use mathlib.Core.Bool.{Bool}
 use Prim.Native.Nat.{ℕ}
+use Rattle.tracker.specs.declared.Access.{Access}
 use Rattle.tracker.specs.declared.Answer.{Answer}
 use Rattle.tracker.proofs.One.{says-one}
 use Rattle.rules.specs.State as rules
@@ -49,9 +50,9 @@ module _ (bytes memory : List ℕ) (a b : Out) (x y m k : List ℕ) where
   pub one-open : (n t l : ℕ) → did a x m ≡ opened n t l bytes memory → did b y k ≡ opened n t l bytes memory → Alike a b x y m k
   one-open n t l = one a b x y m k
 
-  pub one-issue : (s : State) (i : ℕ) (write bottom : Bool) (g v : ℕ)
-      → did a x m ≡ issue (seen s) bytes memory i write bottom g v → did b y k ≡ issue (seen s) bytes memory i write bottom g v → Alike a b x y m k
-  one-issue s i write bottom g v = one a b x y m k
+  pub one-issue : (s : State) (i : ℕ) (access : Access)
+      → did a x m ≡ issue (seen s) bytes memory i access → did b y k ≡ issue (seen s) bytes memory i access → Alike a b x y m k
+  one-issue s i access = one a b x y m k
 
   pub one-step : (s : State) (i : ℕ) → did a x m ≡ step (seen s) bytes memory i → did b y k ≡ step (seen s) bytes memory i → Alike a b x y m k
   one-step s i = one a b x y m k

@@ -1,13 +1,12 @@
 -- Laws of the calls by the way they end: each refusal where its test fails and those before it hold, and the call where all hold.
 use mathlib.Core.Path.{_≡_, refl, _∙_}
 use mathlib.Core.List.{List, [], _∷_, _++_}
-use mathlib.Core.Bool.{Bool, true, false}
+use mathlib.Core.Bool.{true, false}
 use Prim.Native.Nat.{ℕ, _+_, _*_, _≤_, _<_}
 use native.Mathlib.Omega.{arith}
-use lib.Dec.{eqb, ltb, leb}
+use lib.Dec.{eqb, leb}
 use lib.ListN.{length}
 use borrow.Author.Tests.{lt-ltb, le-ltb, le-leb, eq-eqb, ne-eqb, ltb-true}
-use Rattle.geometry.specs.TagMemory.{groups}
 use Rattle.laws.specs.Choice.{both}
 use Rattle.laws.specs.Refusal.{Tests, refusal, unless}
 use Rattle.laws.proofs.Refusal.{refusal-0, refusal-hold, refusal-first, refusal-then, refusal-past, unless-0, unless-no}
@@ -18,6 +17,7 @@ use Rattle.geometry.specs.TagMemory.{memoryLength, mapBlockOf, mapByteOf, mapBi
 use Rattle.block.specs.Block.{bitAt}
 use Rattle.memory.specs.PlainReading.{leafBit}
 use Rattle.memory.specs.True.{isTrue, clearedMap}
+use Rattle.tracker.specs.declared.Access.{Access}
 use Rattle.tracker.specs.Tracker.{issued, isIdle}
 use Rattle.line.specs.Find.{lineOf}
 use Rattle.rules.specs.State.{State, trackerAt, lengthsRight, begun, zeroState}
@@ -90,49 +90,29 @@ module _ (s : State) (bytes memory : List ℕ) where
   past-no ts e = refusal-past (stateTests s bytes memory) ts (refusal-hold (stateTests s bytes memory) refl e)
 
 -- issue
-module _ (s : State) (bytes memory : List ℕ) (x g : ℕ) where
-  pub issue-unfit : 0 < unfit s bytes memory → issueNo s bytes memory x g ≡ unfit s bytes memory
+module _ (s : State) (bytes memory : List ℕ) (x : ℕ) (a : Access) where
+  pub issue-unfit : 0 < unfit s bytes memory → issueNo s bytes memory x a ≡ unfit s bytes memory
   unfolding issueNo
   issue-unfit h = then-no s bytes memory _ h
 
-  issue-fit : unfit s bytes memory ≡ 0
-      → issueNo s bytes memory x g ≡ refusal (issueTests (s .n) (s .t) x g (trackerAt (s .trackers) x))
+  pub issue-fit : unfit s bytes memory ≡ 0 → issueNo s bytes memory x a ≡ refusal (issueTests (s .n) (s .t) x a (s .trackers))
   unfolding issueNo
   issue-fit e = past-no s bytes memory _ e
 
-  module _ (e : unfit s bytes memory ≡ 0) where
-    pub issue-5 : s .t ≤ x → issueNo s bytes memory x g ≡ 5
-    unfolding refusal
-    issue-5 h = issue-fit e ∙ rw (le-ltb x (s .t) h)
-
-    pub issue-6 : x < s .t → 16 * s .n ≤ g → issueNo s bytes memory x g ≡ 6
-    unfolding refusal groups
-    issue-6 h k = issue-fit e ∙ rw (lt-ltb x (s .t) h, le-ltb g (16 * s .n) k)
-
-    pub issue-7 : x < s .t → g < 16 * s .n → isIdle (trackerAt (s .trackers) x) ≡ false → issueNo s bytes memory x g ≡ 7
-    unfolding refusal groups
-    issue-7 h k q = issue-fit e ∙ rw (lt-ltb x (s .t) h, lt-ltb g (16 * s .n) k, q)
-
-    pub issue-0 : x < s .t → g < 16 * s .n → isIdle (trackerAt (s .trackers) x) ≡ true → issueNo s bytes memory x g ≡ 0
-    unfolding refusal groups
-    issue-0 h k q = issue-fit e ∙ rw (lt-ltb x (s .t) h, lt-ltb g (16 * s .n) k, q)
-
   -- where an issue is not refused
-  pub issue-in : issueNo s bytes memory x g ≡ 0 → (x < 8) × (g < 4194304)
-  unfolding issueNo groups
+  pub issue-in : issueNo s bytes memory x a ≡ 0 → x < 8
+  unfolding issueNo
   issue-in e =
-      let h = refusal-hold (stateTests s bytes memory ++ issueTests (s .n) (s .t) x g (trackerAt (s .trackers) x)) refl e in
-      let f = whole-facts s (h .0) .limits-ok in
-      (omega (arith, ltb-true x (s .t) (h .1 .1 .0), t-most _ _ _ f), omega (arith, ltb-true g (16 * s .n) (h .1 .1 .1 .0), n-most _ _ _ f))
+      let h = refusal-hold (stateTests s bytes memory ++ issueTests (s .n) (s .t) x a (s .trackers)) refl e in
+      omega (arith, ltb-true x (s .t) (h .1 .1 .0), t-most _ _ _ (whole-facts s (h .0) .limits-ok))
 
-  pub issue-refused : (write bottom : Bool) (v c : ℕ) → c ≡ issueNo s bytes memory x g → 0 < c → issue s bytes memory x write bottom g v ≡ refused c s bytes memory
+  pub issue-refused : (c : ℕ) → c ≡ issueNo s bytes memory x a → 0 < c → issue s bytes memory x a ≡ refused c s bytes memory
   unfolding issue
-  issue-refused write bottom v c e h = rw (← e) (unless-no _ _ h)
+  issue-refused c e h = rw (← e) (unless-no _ _ h)
 
-  pub issue-accepted : (write bottom : Bool) (v : ℕ) → issueNo s bytes memory x g ≡ 0
-      → issue s bytes memory x write bottom g v ≡ accepted (withTracker s x (issued write bottom g v)) bytes memory
+  pub issue-accepted : issueNo s bytes memory x a ≡ 0 → issue s bytes memory x a ≡ accepted (withTracker s x (issued a)) bytes memory
   unfolding issue
-  issue-accepted write bottom v e = unless-0 _ _ e
+  issue-accepted e = unless-0 _ _ e
 
 -- step
 module _ (s : State) (bytes memory : List ℕ) (x : ℕ) where
@@ -140,27 +120,14 @@ module _ (s : State) (bytes memory : List ℕ) (x : ℕ) where
   unfolding stepNo
   step-unfit h = then-no s bytes memory _ h
 
-  step-fit : unfit s bytes memory ≡ 0 → stepNo s bytes memory x ≡ refusal (stepTests (s .t) x (trackerAt (s .trackers) x))
+  pub step-fit : unfit s bytes memory ≡ 0 → stepNo s bytes memory x ≡ refusal (stepTests (s .t) x (s .trackers))
   unfolding stepNo
   step-fit e = past-no s bytes memory _ e
-
-  module _ (e : unfit s bytes memory ≡ 0) where
-    pub step-5 : s .t ≤ x → stepNo s bytes memory x ≡ 5
-    unfolding refusal
-    step-5 h = step-fit e ∙ rw (le-ltb x (s .t) h)
-
-    pub step-8 : x < s .t → isIdle (trackerAt (s .trackers) x) ≡ true → stepNo s bytes memory x ≡ 8
-    unfolding refusal
-    step-8 h q = step-fit e ∙ rw (lt-ltb x (s .t) h, q)
-
-    pub step-0 : x < s .t → isIdle (trackerAt (s .trackers) x) ≡ false → stepNo s bytes memory x ≡ 0
-    unfolding refusal
-    step-0 h q = step-fit e ∙ rw (lt-ltb x (s .t) h, q)
 
   pub step-in : stepNo s bytes memory x ≡ 0 → x < 8
   unfolding stepNo
   step-in e =
-      let h = refusal-hold (stateTests s bytes memory ++ stepTests (s .t) x (trackerAt (s .trackers) x)) refl e in
+      let h = refusal-hold (stateTests s bytes memory ++ stepTests (s .t) x (s .trackers)) refl e in
       omega (arith, ltb-true x (s .t) (h .1 .1 .0), t-most _ _ _ (whole-facts s (h .0) .limits-ok))
 
   pub step-refused : (c : ℕ) → c ≡ stepNo s bytes memory x → 0 < c → step s bytes memory x ≡ refused c s bytes memory
@@ -178,18 +145,9 @@ module _ (s : State) (bytes memory : List ℕ) where
   unfolding drainNo
   drain-unfit h = then-no s bytes memory _ h
 
-  drain-fit : unfit s bytes memory ≡ 0 → drainNo s bytes memory ≡ refusal (drainTests (allIdle s))
-  unfolding drainNo
+  pub drain-fit : unfit s bytes memory ≡ 0 → drainNo s bytes memory ≡ refusal (drainTests (all (λ x. isIdle (trackerAt (s .trackers) x)) (s .t)))
+  unfolding drainNo allIdle
   drain-fit e = past-no s bytes memory _ e
-
-  module _ (e : unfit s bytes memory ≡ 0) where
-    pub drain-7 : all (λ x. isIdle (trackerAt (s .trackers) x)) (s .t) ≡ false → drainNo s bytes memory ≡ 7
-    unfolding allIdle refusal
-    drain-7 q = drain-fit e ∙ rw q
-
-    pub drain-0 : all (λ x. isIdle (trackerAt (s .trackers) x)) (s .t) ≡ true → drainNo s bytes memory ≡ 0
-    unfolding allIdle refusal
-    drain-0 q = drain-fit e ∙ rw q
 
   -- where a drain is not refused, the rows are of L lines
   pub drain-rows : drainNo s bytes memory ≡ 0 → length (s .lines) ≡ 64 → drainedRows (s .l) (rows (s .lines) bytes memory) ≡ drained (s .l) (rows (s .lines) bytes memory)
@@ -217,22 +175,9 @@ module _ (s : State) (bytes memory : List ℕ) (k : ℕ) where
   unfolding showNo
   show-unfit h = then-no s bytes memory _ h
 
-  show-fit : unfit s bytes memory ≡ 0 → showNo s bytes memory k ≡ refusal (showTests (s .n) k (allIdle s))
-  unfolding showNo
+  pub show-fit : unfit s bytes memory ≡ 0 → showNo s bytes memory k ≡ refusal (showTests (s .n) k (all (λ x. isIdle (trackerAt (s .trackers) x)) (s .t)))
+  unfolding showNo allIdle
   show-fit e = past-no s bytes memory _ e
-
-  module _ (e : unfit s bytes memory ≡ 0) where
-    pub show-6 : s .n ≤ k → showNo s bytes memory k ≡ 6
-    unfolding refusal
-    show-6 h = show-fit e ∙ rw (le-ltb k (s .n) h)
-
-    pub show-7 : k < s .n → all (λ x. isIdle (trackerAt (s .trackers) x)) (s .t) ≡ false → showNo s bytes memory k ≡ 7
-    unfolding allIdle refusal
-    show-7 h q = show-fit e ∙ rw (lt-ltb k (s .n) h, q)
-
-    pub show-0 : k < s .n → all (λ x. isIdle (trackerAt (s .trackers) x)) (s .t) ≡ true → showNo s bytes memory k ≡ 0
-    unfolding allIdle refusal
-    show-0 h q = show-fit e ∙ rw (lt-ltb k (s .n) h, q)
 
   -- where a leaf is shown
   pub show-in : showNo s bytes memory k ≡ 0 → (k < s .n) × (s .n ≤ 262144) × (s .l ≤ 64) × (length bytes ≡ 64 * s .l) × (length memory ≡ memoryLength (s .n))

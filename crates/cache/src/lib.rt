@@ -1,6 +1,7 @@
 // The cache and its trackers: 01's calls fresh, open, issue, step, drain and show, over a state that goes by value.
 // No public function has a `requires`: every number, every field of the state and both lent slices can be anything.
 use geometry::Geometry;
+use tracker::Access;
 use tracker::Answer;
 use tracker::Tracker;
 use turned::Turned;
@@ -157,43 +158,27 @@ impl State {
     }
 
     // The refusal of an issue, 4, 2, 5, 6, 7; 0 if none.
-    fn issue_refusal(self, bytes: &[u8], memory: &[u8], x: u64, g: u64) -> u8
-        ensures { λ r. ⌜ r ≡ issueNo (seen self) (now (bytes .entry)) (now (memory .entry)) x g ⌝ }
+    fn issue_refusal(self, bytes: &[u8], memory: &[u8], x: u64, access: Access) -> u8
+        ensures { λ r. ⌜ r ≡ issueNo (seen self) (now (bytes .entry)) (now (memory .entry)) x access ⌝ }
     {
         let c = self.unfit(bytes, memory);
         if 0 < c {
             return c;
         }
-        if self.t as u64 <= x {
-            return 5;
-        }
-        if Geometry::GROUPS as u64 * (self.n as u64) <= g {
-            return 6;
-        }
-        let k = x as usize;
-        let tracker = self.trackers[k];
-        if tracker.is_idle() { 0 } else { 7 }
+        let trackers = self.trackers;
+        whole::issue_refusal(self.n, self.t, x, access, trackers)
     }
 
-    // A read, or a write of v, of group g, for tracker x: refusals 4, 2, 5, 6, 7.
-    pub fn issue(
-        mut self,
-        bytes: &[u8],
-        memory: &[u8],
-        x: u64,
-        write: bool,
-        bottom: bool,
-        g: u64,
-        v: u32,
-    ) -> Out
-        ensures { λ r. ⌜ did r (now (bytes .entry)) (now (memory .entry)) ≡ issue (seen self) (now (bytes .entry)) (now (memory .entry)) x write bottom g v ⌝ }
+    // An access for tracker x: refusals 4, 2, 5, 6, 7.
+    pub fn issue(mut self, bytes: &[u8], memory: &[u8], x: u64, access: Access) -> Out
+        ensures { λ r. ⌜ did r (now (bytes .entry)) (now (memory .entry)) ≡ issue (seen self) (now (bytes .entry)) (now (memory .entry)) x access ⌝ }
     {
-        let c = self.issue_refusal(bytes, memory, x, g);
+        let c = self.issue_refusal(bytes, memory, x, access);
         if 0 < c {
             return self.refuse(c);
         }
         let k = x as usize;
-        let tracker = Tracker::begin(write, bottom, g as u32, v);
+        let tracker = Tracker::begin(access);
         self.trackers[k] = tracker;
         Out {
             state: self,
@@ -209,12 +194,8 @@ impl State {
         if 0 < c {
             return c;
         }
-        if self.t as u64 <= x {
-            return 5;
-        }
-        let k = x as usize;
-        let tracker = self.trackers[k];
-        if tracker.is_idle() { 8 } else { 0 }
+        let trackers = self.trackers;
+        whole::step_refusal(self.t, x, trackers)
     }
 
     // One step of tracker x: refusals 4, 2, 5, 8.
@@ -256,8 +237,8 @@ impl State {
         if 0 < c {
             return c;
         }
-        let table = self.trackers;
-        if whole::all_idle(self.t, table) { 0 } else { 7 }
+        let trackers = self.trackers;
+        whole::drain_refusal(self.t, trackers)
     }
 
     // The changed lines are written to memory, lowest first, and marked clean: refusals 4, 2, 7.
@@ -284,15 +265,8 @@ impl State {
         if 0 < c {
             return c;
         }
-        if self.n as u64 <= k {
-            return 6;
-        }
         let trackers = self.trackers;
-        if whole::all_idle(self.t, trackers) {
-            0
-        } else {
-            7
-        }
+        whole::show_refusal(self.n, self.t, k, trackers)
     }
 
     // Leaf k's bit, read in the map block's line if it has one.

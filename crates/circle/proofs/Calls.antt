@@ -9,6 +9,7 @@ use Rattle.laws.specs.Choice.{pick}
 use Rattle.laws.proofs.Choice.{true-or-false}
 use Rattle.laws.specs.Refusal.{refusal, unless}
 use Rattle.laws.proofs.Refusal.{refused-or-not}
+use Rattle.tracker.specs.declared.Access.{Access}
 use Rattle.tracker.specs.Tracker.{isIdle}
 use Rattle.tracker.specs.Tracker as Tracker
 use Rattle.tracker.specs.Answer.{ok, no}
@@ -23,16 +24,16 @@ use Rattle.circle.proofs.Ready.{right, Ready, issue-keeps, step-keeps, 
 
 -- the call without the other bytes that it lends
 abbrev pub bare : Call → Call
-bare (issues x write bottom g v) = issues x write bottom g v
+bare (issues x access) = issues x access
 bare (steps x) = steps x
 bare drains = drains
 bare (lends b m c) = bare c
 
 pub data Outcome (k : Kept) : Call → Out → Type 0 where
   refused : {c : Call} {o : Out} (r : ℕ) → o .said ≡ no r → kept o ≡ k → Outcome k c o
-  issued : (x : ℕ) (write bottom : Bool) (g v : ℕ) → x < k .state .t → isIdle (trackerIn k x) ≡ true
-      → does k (issues x write bottom g v) ≡ accepted (withTracker (k .state) x (Tracker.issued write bottom g v)) (k .bytes) (k .memory)
-      → Outcome k (issues x write bottom g v) (does k (issues x write bottom g v))
+  issued : (x : ℕ) (access : Access) → x < k .state .t → isIdle (trackerIn k x) ≡ true
+      → does k (issues x access) ≡ accepted (withTracker (k .state) x (Tracker.issued access)) (k .bytes) (k .memory)
+      → Outcome k (issues x access) (does k (issues x access))
   stepped : (x : ℕ) → x < k .state .t → isIdle (trackerIn k x) ≡ false → Outcome k (steps x) (does k (steps x))
   drained : (lines memory : List ℕ) → allIdle (k .state) ≡ true → does k drains ≡ accepted (withLines (k .state) lines) (k .bytes) memory → Outcome k drains (does k drains)
 
@@ -49,7 +50,7 @@ lent-refuses k false a b u f = let v = f refl in record { number = v .number; sa
 -- a length that is wrong: 2
 wrong : (k : Kept) → whole (k .state) ≡ true → right k ≡ false → (c : Call) → Refuses k (does k c)
 unfolding does issue issueNo step stepNo drain drainNo refusal unless
-wrong k w e (issues x write bottom g v) = rw (w, e) (record { number = 2; said-it = refl; state-is = refl })
+wrong k w e (issues x access) = rw (w, e) (record { number = 2; said-it = refl; state-is = refl })
 wrong k w e (steps x) = rw (w, e) (record { number = 2; said-it = refl; state-is = refl })
 wrong k w e drains = rw (w, e) (record { number = 2; said-it = refl; state-is = refl })
 wrong k w e (lends b m c) =
@@ -60,20 +61,20 @@ module _ (k : Kept) (s : Ready k) where
   refused-out : (c : Call) (r : ℕ) → Outcome k c (Calls.refused r (k .state) (k .bytes) (k .memory))
   refused-out c r = refused r refl refl
 
-  issue-outcome : (x : ℕ) (write bottom : Bool) (g v : ℕ) → Outcome k (issues x write bottom g v) (does k (issues x write bottom g v))
+  issue-outcome : (x : ℕ) (access : Access) → Outcome k (issues x access) (does k (issues x access))
   unfolding does
-  issue-outcome x write bottom g v =
-      ⊎-elim (λ e. let h = issue-free (k .state) (k .bytes) (k .memory) (s .0) (s .1) x write bottom g v e in
-      issued x write bottom g v (h .0) (h .2) (issue-accepted (k .state) (k .bytes) (k .memory) (s .0) (s .1) x write bottom g v e))
-      (λ h. rw (issue-refused (k .state) (k .bytes) (k .memory) (s .0) (s .1) x write bottom g v h) (refused-out (issues x write bottom g v) _))
-      (refused-or-not (refusal (issueTests (k .state .n) (k .state .t) x g (trackerIn k x))))
+  issue-outcome x access =
+      ⊎-elim (λ e. let h = issue-free (k .state) (k .bytes) (k .memory) (s .0) (s .1) x access e in
+      issued x access (h .0) (h .2) (issue-accepted (k .state) (k .bytes) (k .memory) (s .0) (s .1) x access e))
+      (λ h. rw (issue-refused (k .state) (k .bytes) (k .memory) (s .0) (s .1) x access h) (refused-out (issues x access) _))
+      (refused-or-not (refusal (issueTests (k .state .n) (k .state .t) x access (k .state .trackers))))
 
   step-outcome : (x : ℕ) → Outcome k (steps x) (does k (steps x))
   unfolding does
   step-outcome x =
       ⊎-elim (λ e. let h = step-free (k .state) (k .bytes) (k .memory) (s .0) (s .1) x e in stepped x (h .0) (h .1))
       (λ h. rw (step-refused (k .state) (k .bytes) (k .memory) (s .0) (s .1) x h) (refused-out (steps x) _))
-      (refused-or-not (refusal (stepTests (k .state .t) x (trackerIn k x))))
+      (refused-or-not (refusal (stepTests (k .state .t) x (k .state .trackers))))
 
   drain-outcome : Outcome k drains (does k drains)
   unfolding does
@@ -89,7 +90,7 @@ module _ (k : Kept) (s : Ready k) where
 
   pub outcome : (c : Call) → Outcome k (bare c) (does k c)
   unfolding does
-  outcome (issues x write bottom g v) = issue-outcome x write bottom g v
+  outcome (issues x access) = issue-outcome x access
   outcome (steps x) = step-outcome x
   outcome drains = drain-outcome
   outcome (lends b m c) =
@@ -106,7 +107,7 @@ refused-same k s c r e = at (bare c) (does k c) (outcome k s c) e
   where
     at : (c' : Call) (o : Out) → Outcome k c' o → o .said ≡ no r → kept o ≡ k
     at c' o (refused r' q same) e = same
-    at c' o (issued x write bottom g v p q is) e = absurd (ok-not-no (sym (ap (λ (a : Out). a .said) is) ∙ e))
+    at c' o (issued x access p q is) e = absurd (ok-not-no (sym (ap (λ (a : Out). a .said) is) ∙ e))
     at c' o (stepped x p q) e = absurd (never-refused k s x r p q e)
     at c' o (drained lines memory q is) e = absurd (ok-not-no (sym (ap (λ (a : Out). a .said) is) ∙ e))
 
@@ -116,6 +117,6 @@ call-keeps k s c = at (bare c) (does k c) (outcome k s c)
   where
     at : (c' : Call) (o : Out) → Outcome k c' o → Ready (kept o)
     at c' o (refused r q same) = rw same s
-    at c' o (issued x write bottom g v p q is) = issue-keeps k s x write bottom g v
+    at c' o (issued x access p q is) = issue-keeps k s x access
     at c' o (stepped x p q) = step-keeps k s x
     at c' o (drained lines memory q is) = drain-keeps k s

@@ -2,6 +2,7 @@
 use mathlib.Core.Path.{_≡_}
 use mathlib.Core.Bool.{Bool, true, false}
 use Prim.Native.Nat.{ℕ, suc, _<_}
+use Rattle.tracker.specs.declared.Access.{Access}
 use Rattle.tracker.specs.declared.Tracker.{Tracker}
 use Rattle.tracker.specs.Tracker.{isIdle}
 use Rattle.tracker.specs.Answer.{ok, no}
@@ -27,8 +28,8 @@ pub data Circle (t : ℕ) (o : Order t) : Kept → ℕ → (given : ℕ → ℕ)
   passed : {k : Kept} {i : ℕ} {given : ℕ → ℕ} {under : ℕ → Bool} → Circle t o k i given under → isIdle (trackerIn k (o .tracker i)) ≡ true
       → Circle t o k (next t i) given under
   -- Between turns, any number of times: an access is issued, which has been given no turn,
-  issued : {k : Kept} {i : ℕ} {given : ℕ → ℕ} {under : ℕ → Bool} → Circle t o k i given under → (x : ℕ) (write bottom : Bool) (g v : ℕ)
-      → does k (issues x write bottom g v) .said ≡ ok → Circle t o (kept (does k (issues x write bottom g v))) i (becomes given x 0) (becomes under x true)
+  issued : {k : Kept} {i : ℕ} {given : ℕ → ℕ} {under : ℕ → Bool} → Circle t o k i given under → (x : ℕ) (access : Access)
+      → does k (issues x access) .said ≡ ok → Circle t o (kept (does k (issues x access))) i (becomes given x 0) (becomes under x true)
   -- or the lines are drained,
   drained : {k : Kept} {i : ℕ} {given : ℕ → ℕ} {under : ℕ → Bool} → Circle t o k i given under → does k drains .said ≡ ok
       → Circle t o (kept (does k drains)) i given under

@@ -55,7 +55,8 @@ pub record Levels (e : ℕ) : Type 1 where
   pub stand-holding : (write : Bool) (at : At) → holding at ≡ isAfter (stand write at)
   pub stand-short : (write : Bool) (at : At) (r : ℕ) → stand write at ≡ after r → suc r ≤ 2 * e
 
-pub record Access (At : Type 0) : Type 0 where
+-- an access under way: where it is, whether it writes, and the block that it holds or wants
+pub record UnderWay (At : Type 0) : Type 0 where
   pub at : At
   pub write : Bool
   pub lock : ℕ
@@ -94,31 +95,31 @@ bound-is e M write bottom = at (suc e - 1) (suc M - 1) (omega arith) (omega arit
     at d N p q false false = rw (p, q) (omega arith)
 
 module _ (e : ℕ) (L : Levels e) (M : ℕ) where
-  abbrev pub slotOf : (a n : ℕ) → Access (L .At) → Slot
+  abbrev pub slotOf : (a n : ℕ) → UnderWay (L .At) → Slot
   slotOf a n s = slotAt e a n (s .write) (s .lock) (L .stand (s .write) (s .at))
 
   -- the access holds lock b
-  abbrev pub Has : Access (L .At) → ℕ → Type 0
+  abbrev pub Has : UnderWay (L .At) → ℕ → Type 0
   Has s b = (L .holding (s .at) ≡ true) × (b ≡ s .lock)
 
-  has-holds : (a n b : ℕ) (s : Access (L .At)) → Has s b → Holds b (slotOf a n s)
+  has-holds : (a n b : ℕ) (s : UnderWay (L .At)) → Has s b → Holds b (slotOf a n s)
   has-holds a n b s h = holds-slot e a n (s .write) b (s .lock) (L .stand (s .write) (s .at)) (sym (L .stand-holding (s .write) (s .at)) ∙ h .0) (h .1)
 
-  holds-has : (a n b : ℕ) (s : Access (L .At)) → Holds b (slotOf a n s) → Has s b
+  holds-has : (a n b : ℕ) (s : UnderWay (L .At)) → Holds b (slotOf a n s) → Has s b
   holds-has a n b s h = let r = slot-holds e a n (s .write) b (s .lock) (L .stand (s .write) (s .at)) h in (L .stand-holding (s .write) (s .at) ∙ r .0, r .1)
 
   -- the access after a move
-  abbrev pub moved : Access (L .At) → L .At → Access (L .At)
+  abbrev pub moved : UnderWay (L .At) → L .At → UnderWay (L .At)
   moved s at = record { at = at; write = s .write; lock = s .lock }
 
   -- what a move leaves of an access
-  abbrev pub Left : Access (L .At) → Move (L .At) → Access (L .At) → Type 0
+  abbrev pub Left : UnderWay (L .At) → Move (L .At) → UnderWay (L .At) → Type 0
   Left s waits s' = s' ≡ s
   Left s (to at) s' = s' ≡ moved s at
   Left s ends s' = L .stand (s' .write) (s' .at) ≡ rests
 
   -- One step of an access is one turn of its slot.
-  turn-of : (a n : ℕ) (c : ℕ → Slot) (x : ℕ) (held : Bool) (s s' : Access (L .At)) (st : Stand) → L .stand (s .write) (s .at) ≡ st → st ≢ rests
+  turn-of : (a n : ℕ) (c : ℕ → Slot) (x : ℕ) (held : Bool) (s s' : UnderWay (L .At)) (st : Stand) → L .stand (s .write) (s .at) ≡ st → st ≢ rests
       → (m : Move (L .At)) → Fits (L .stand (s .write)) (later e (s .write)) held st m → Left s m s'
       → (st ≡ before 0 → held ≡ true → (h : ℕ) × (h < suc M) × (h ≢ x) × Holds (s .lock) (c h)) → (st ≡ before 0 → held ≡ false → Free M (2 * e) (s .lock) c)
       → Turn M (2 * e) c x (slotAt e a n (s .write) (s .lock) st) (slotOf (suc a) n s')
@@ -139,11 +140,11 @@ module _ (e : ℕ) (L : Levels e) (M : ℕ) where
 
   module _ (O : Order (suc M)) where
     -- the circle's places as slots; s, given and due are by the tracker's number
-    abbrev pub slots : (ℕ → Access (L .At)) → (given due : ℕ → ℕ) → ℕ → Slot
+    abbrev pub slots : (ℕ → UnderWay (L .At)) → (given due : ℕ → ℕ) → ℕ → Slot
     slots s given due i = slotOf (given (O .tracker i)) (due (O .tracker i)) (s (O .tracker i))
 
     -- every promise is being kept; place p has the next turn
-    abbrev pub Promises : (ℕ → Access (L .At)) → (given due : ℕ → ℕ) → ℕ → Type 0
+    abbrev pub Promises : (ℕ → UnderWay (L .At)) → (given due : ℕ → ℕ) → ℕ → Type 0
     Promises s given due p = Inv M (2 * e) (slots s given due) p
 
     -- a promise for what stands in a tracker now
@@ -152,10 +153,10 @@ module _ (e : ℕ) (L : Levels e) (M : ℕ) where
     room (before k) write = 2 * e * M + k + suc (later e write)
     room (after r) write = suc r
 
-    abbrev pub dueNow : (ℕ → Access (L .At)) → (ℕ → ℕ) → ℕ → ℕ
+    abbrev pub dueNow : (ℕ → UnderWay (L .At)) → (ℕ → ℕ) → ℕ → ℕ
     dueNow s given x = given x + room (L .stand (s x .write) (s x .at)) (s x .write)
 
-    pub promises-begin : (s : ℕ → Access (L .At)) (given : ℕ → ℕ) (p : ℕ) → p < suc M → Promises s given (dueNow s given) p
+    pub promises-begin : (s : ℕ → UnderWay (L .At)) (given : ℕ → ℕ) (p : ℕ) → p < suc M → Promises s given (dueNow s given) p
     promises-begin s given p hp = inv-begin M (2 * e) (slots s given (dueNow s given)) p hp (λ q hq. at (O .tracker q) (L .stand (s (O .tracker q) .write) (s (O .tracker q) .at)) refl)
       where
         at : (x : ℕ) (st : Stand) → L .stand (s x .write) (s x .at) ≡ st → Promised M (2 * e) (slotAt e (given x) (given x + room st (s x .write)) (s x .write) (s x .lock) st)
@@ -164,15 +165,15 @@ module _ (e : ℕ) (L : Levels e) (M : ℕ) where
         at x (after r) q = (omega arith, L .stand-short (s x .write) (s x .at) r q)
 
     -- what stands at another tracker than x stays
-    abbrev pub Others : ℕ → (s s' : ℕ → Access (L .At)) (given given' due due' : ℕ → ℕ) → Type 0
+    abbrev pub Others : ℕ → (s s' : ℕ → UnderWay (L .At)) (given given' due due' : ℕ → ℕ) → Type 0
     Others x s s' given given' due due' = (y : ℕ) → y ≢ x → (s' y ≡ s y) × (given' y ≡ given y) × (due' y ≡ due y)
 
-    but : (s s' : ℕ → Access (L .At)) (given given' due due' : ℕ → ℕ) (q : ℕ) → q < suc M → Others (O .tracker q) s s' given given' due due'
+    but : (s s' : ℕ → UnderWay (L .At)) (given given' due due' : ℕ → ℕ) (q : ℕ) → q < suc M → Others (O .tracker q) s s' given given' due due'
         → But M (2 * e) q (slots s given due) (slots s' given' due')
     but s s' given given' due due' q hq same i hi ne =
         let r = same (O .tracker i) (λ eq. ne (order-inj (suc M) O i q hi hq eq)) in rw (r .0, r .1, r .2) refl
 
-    issue-at : (s s' : ℕ → Access (L .At)) (given given' due due' : ℕ → ℕ) (p q b : ℕ) (write bottom : Bool) → Promises s given due p → q < suc M
+    issue-at : (s s' : ℕ → UnderWay (L .At)) (given given' due due' : ℕ → ℕ) (p q b : ℕ) (write bottom : Bool) → Promises s given due p → q < suc M
         → L .stand (s (O .tracker q) .write) (s (O .tracker q) .at) ≡ rests → s' (O .tracker q) ≡ record { at = L .first bottom; write = write; lock = b }
         → given' (O .tracker q) ≡ 0 → due' (O .tracker q) ≡ bound (suc e) (suc M) write bottom → Others (O .tracker q) s s' given given' due due' → Promises s' given' due' p
     issue-at s s' given given' due due' p q b write bottom K hq free new none promise same =
@@ -181,7 +182,7 @@ module _ (e : ℕ) (L : Levels e) (M : ℕ) where
         (but s s' given given' due due' q hq same)
 
     -- An access issued to a tracker at rest is promised its bound.
-    pub promises-issue : (s s' : ℕ → Access (L .At)) (given given' due due' : ℕ → ℕ) (p x b : ℕ) (write bottom : Bool) → Promises s given due p → x < suc M
+    pub promises-issue : (s s' : ℕ → UnderWay (L .At)) (given given' due due' : ℕ → ℕ) (p x b : ℕ) (write bottom : Bool) → Promises s given due p → x < suc M
         → L .stand (s x .write) (s x .at) ≡ rests → s' x ≡ record { at = L .first bottom; write = write; lock = b }
         → given' x ≡ 0 → due' x ≡ bound (suc e) (suc M) write bottom → Others x s s' given given' due due' → Promises s' given' due' p
     promises-issue s s' given given' due due' p x b write bottom K hx =
@@ -190,7 +191,7 @@ module _ (e : ℕ) (L : Levels e) (M : ℕ) where
         (issue-at s s' given given' due due' p (O .place x) b write bottom K (O .place-below x hx))
 
     -- The tracker at place p is given its turn and moves as a table says.
-    pub promises-turn : (s s' : ℕ → Access (L .At)) (given given' due : ℕ → ℕ) (p : ℕ) (held : Bool) (m : Move (L .At)) → Promises s given due p
+    pub promises-turn : (s s' : ℕ → UnderWay (L .At)) (given given' due : ℕ → ℕ) (p : ℕ) (held : Bool) (m : Move (L .At)) → Promises s given due p
         → L .stand (s (O .tracker p) .write) (s (O .tracker p) .at) ≢ rests
         → Fits (L .stand (s (O .tracker p) .write)) (later e (s (O .tracker p) .write)) held (L .stand (s (O .tracker p) .write) (s (O .tracker p) .at)) m
         → Left (s (O .tracker p)) m (s' (O .tracker p))
@@ -225,12 +226,12 @@ module _ (e : ℕ) (L : Levels e) (M : ℕ) where
             at (no ne) = none z h (O .tracker i) (O .tracker-below i hi) ne k'
 
     -- A tracker at rest is passed over.
-    pub promises-over : (s : ℕ → Access (L .At)) (given due : ℕ → ℕ) (p : ℕ) → Promises s given due p
+    pub promises-over : (s : ℕ → UnderWay (L .At)) (given due : ℕ → ℕ) (p : ℕ) → Promises s given due p
         → L .stand (s (O .tracker p) .write) (s (O .tracker p) .at) ≡ rests → Promises s given due (next (suc M) p)
     promises-over s given due p K free = inv-turn M (2 * e) (slots s given due) (slots s given due) p K (rw free passed) (λ i hi ne. refl)
 
     -- THE BOUND: a busy tracker was given fewer turns than it was promised.
-    pub promises-within : (s : ℕ → Access (L .At)) (given due : ℕ → ℕ) (p : ℕ) → Promises s given due p → (x : ℕ) → x < suc M
+    pub promises-within : (s : ℕ → UnderWay (L .At)) (given due : ℕ → ℕ) (p : ℕ) → Promises s given due p → (x : ℕ) → x < suc M
         → L .stand (s x .write) (s x .at) ≢ rests → given x < due x
     promises-within s given due p K x hx busy = at (L .stand (s x .write) (s x .at)) busy
         (subst (λ (y : ℕ). Within (slotOf (given y) (due y) (s y))) (O .back x hx) (Bound.bound M (2 * e) (slots s given due) p K (O .place x) (O .place-below x hx)))

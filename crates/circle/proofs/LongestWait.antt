@@ -7,6 +7,7 @@ use Prim.Native.Nat.{ℕ, zero, suc, _<_, _≤_, min}
 use native.Mathlib.Omega.{arith}
 use borrow.Author.Tests.{eqb-true, eq-eqb}
 use Rattle.laws.proofs.Choice.{not-both-ways, both-left, both-right, both-true}
+use Rattle.tracker.specs.declared.Access.{Access}
 use Rattle.tracker.specs.declared.Phase.{Phase}
 use Rattle.tracker.specs.declared.Phase.the-variants.{Idle, Probe, Map, Leaf, Set, Clear}
 use Rattle.tracker.specs.declared.Tracker.{Tracker}
@@ -23,7 +24,7 @@ use Rattle.circle.specs.LastTurn.{bound, lastTurn}
 use Rattle.circle.proofs.Ending.{Ending}
 use Rattle.circle.proofs.Circle.{trackerIn, Circle, begins, turned, passed, issued, drained, refused}
 use Rattle.circle.proofs.InTime.{InTime, LongestWait}
-use Rattle.circle.proofs.Levels.{rests, before, Access, promises-begin, promises-issue, promises-turn, promises-over, promises-within, dueNow}
+use Rattle.circle.proofs.Levels.{rests, before, UnderWay, promises-begin, promises-issue, promises-turn, promises-over, promises-within, dueNow}
 use Rattle.circle.proofs.Levels as Levels
 use Rattle.circle.proofs.TwoLevels.{stand, twoLevels, fits, lastTurn-is}
 use Rattle.circle.proofs.ByTable.{Moved}
@@ -34,10 +35,10 @@ use Rattle.circle.proofs.Link.{Anew, anew, each, Stepped, by-table, sti
 use Rattle.circle.proofs.Becomes.{becomes-same, becomes-other}
 
 -- a tracker as the levels see it
-abbrev accessOf : ℕ → Tracker → Access Phase
+abbrev accessOf : ℕ → Tracker → UnderWay Phase
 accessOf n t = record { at = t .phase; write = t .write; lock = mapBlock n (t .group) }
 
-abbrev accesses : Kept → ℕ → Access Phase
+abbrev accesses : Kept → ℕ → UnderWay Phase
 accesses k x = accessOf (k .state .n) (trackerIn k x)
 
 -- what rests is idle
@@ -119,42 +120,42 @@ module _ (M : ℕ) (o : Order (suc M)) where
       known = K .known;
     }
 
-    issue-at : (o' : Out) (x : ℕ) (write bottom : Bool) (g v : ℕ) → Outcome k (issues x write bottom g v) o' → o' .said ≡ ok
-        → (x < suc M) × (isIdle (trackerIn k x) ≡ true) × Anew k (kept o') x (Tracker.issued write bottom g v)
-    issue-at o' x write bottom g v (Calls.refused r q z) e = absurd (ok-not-no (sym e ∙ q))
-    issue-at o' x write bottom g v (Calls.issued x' write' bottom' g' v' p q is) e =
+    issue-at : (o' : Out) (x : ℕ) (access : Access) → Outcome k (issues x access) o' → o' .said ≡ ok
+        → (x < suc M) × (isIdle (trackerIn k x) ≡ true) × Anew k (kept o') x (Tracker.issued access)
+    issue-at o' x access (Calls.refused r q z) e = absurd (ok-not-no (sym e ∙ q))
+    issue-at o' x access (Calls.issued x' access' p q is) e =
         let l : x < suc M = let c = K .count in omega arith in
-        (l, q, anew k (kept o') x (Tracker.issued write bottom g v) (K .ready) p (ap (λ (a : Out). a .state .n) is) (ap (λ (a : Out). a .state .t) is) (ap (λ (a : Out). a .state .trackers) is))
+        (l, q, anew k (kept o') x (Tracker.issued access) (K .ready) p (ap (λ (a : Out). a .state .n) is) (ap (λ (a : Out). a .state .t) is) (ap (λ (a : Out). a .state .trackers) is))
 
-    keeps-issue : (x : ℕ) (write bottom : Bool) (g v : ℕ) → does k (issues x write bottom g v) .said ≡ ok
-        → Keeps (kept (does k (issues x write bottom g v))) i (becomes given x 0) (becomes under x true)
-    keeps-issue x write bottom g v e = record {
-      ready = issue-keeps k (K .ready) x write bottom g v;
+    keeps-issue : (x : ℕ) (access : Access) → does k (issues x access) .said ≡ ok
+        → Keeps (kept (does k (issues x access))) i (becomes given x 0) (becomes under x true)
+    keeps-issue x access e = record {
+      ready = issue-keeps k (K .ready) x access;
       count = a .count ∙ K .count;
       due = due';
       promises =
-          promises-issue 1 twoLevels M o (accesses k) (accesses k') given (becomes given x 0) (K .due) due' i x (mapBlock (k .state .n) g) write bottom (K .promises) hx
+          promises-issue 1 twoLevels M o (accesses k) (accesses k') given (becomes given x 0) (K .due) due' i x (mapBlock (k .state .n) (access .group)) (access .write) (access .bottom) (K .promises) hx
           (idle-rests (trackerIn k x .write) (trackerIn k x .phase) (r .1)) (rw (a .leaves, a .own) refl) (becomes-same given x 0) (becomes-same (K .due) x last)
           (λ y ne. (rw (a .leaves, a .other y ne) refl, becomes-other given x y 0 ne, becomes-other (K .due) x y last ne));
-      known = each (KnownAt (becomes under x true) due' (becomes given x 0)) k k' x (Tracker.issued write bottom g v) a
+      known = each (KnownAt (becomes under x true) due' (becomes given x 0)) k k' x (Tracker.issued access) a
           (λ h u b. record { last = becomes-same (K .due) x last; counts = rw (becomes-same given x 0) (omega arith) })
           (λ y ne h u b. rw (becomes-other (K .due) x y last ne, becomes-other given x y 0 ne) (K .known y h (sym (becomes-other under x y true ne) ∙ u) b));
     }
       where
         k' : Kept
-        k' = kept (does k (issues x write bottom g v))
+        k' = kept (does k (issues x access))
 
-        r : (x < suc M) × (isIdle (trackerIn k x) ≡ true) × Anew k k' x (Tracker.issued write bottom g v)
-        r = issue-at (does k (issues x write bottom g v)) x write bottom g v (outcome k (K .ready) (issues x write bottom g v)) e
+        r : (x < suc M) × (isIdle (trackerIn k x) ≡ true) × Anew k k' x (Tracker.issued access)
+        r = issue-at (does k (issues x access)) x access (outcome k (K .ready) (issues x access)) e
 
         hx : x < suc M
         hx = r .0
 
-        a : Anew k k' x (Tracker.issued write bottom g v)
+        a : Anew k k' x (Tracker.issued access)
         a = r .2
 
         last : ℕ
-        last = bound 2 (suc M) write bottom
+        last = bound 2 (suc M) (access .write) (access .bottom)
 
         due' : ℕ → ℕ
         due' = becomes (K .due) x last
@@ -227,7 +228,7 @@ module _ (M : ℕ) (o : Order (suc M)) where
       ready = s;
       count = c ∙ K .count;
       due = K .due;
-      promises = subst (λ (s : ℕ → Access Phase). Levels.Promises 1 twoLevels M o s given (K .due) i) same (K .promises);
+      promises = subst (λ (s : ℕ → UnderWay Phase). Levels.Promises 1 twoLevels M o s given (K .due) i) same (K .promises);
       known = rw e (K .known);
     }
       where
@@ -245,7 +246,7 @@ module _ (M : ℕ) (o : Order (suc M)) where
   keeps (begins k i given c w l h) = keeps-begin k i given c (w, l) h
   keeps (turned {k = k} {i = i} {given = given} {under = under} r b) = keeps-turn k i given under (keeps r) b
   keeps (passed {k = k} {i = i} {given = given} {under = under} r b) = keeps-over k i given under (keeps r) b
-  keeps (issued {k = k} {i = i} {given = given} {under = under} r x write bottom g v e) = keeps-issue k i given under (keeps r) x write bottom g v e
+  keeps (issued {k = k} {i = i} {given = given} {under = under} r x access e) = keeps-issue k i given under (keeps r) x access e
   keeps (drained {k = k} {i = i} {given = given} {under = under} r e) = let K = keeps r in drain-at k i given under K (does k drains) (outcome k (K .ready) drains) e (drain-keeps k (K .ready))
   keeps (refused {k = k} {i = i} {given = given} {under = under} r c n e) =
       let K = keeps r in subst (λ (k' : Kept). Keeps k' i given under) (sym (refused-same k (K .ready) c n e)) K

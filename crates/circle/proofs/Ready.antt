@@ -7,6 +7,7 @@ use lib.ListN.{length}
 use borrow.Author.Tests.{ltb-true, lt-ltb}
 use Rattle.laws.proofs.Choice.{not-both-ways, both-left, both-right, both-true}
 use Rattle.laws.proofs.Splice.{lt-or-ge}
+use Rattle.tracker.specs.declared.Access.{Access}
 use Rattle.tracker.specs.declared.Phase.the-variants.{Map}
 use Rattle.tracker.specs.Tracker.{isIdle, holdsAt}
 use Rattle.tracker.specs.Answer.{no}
@@ -40,9 +41,9 @@ module _ (k : Kept) (s : Ready k) where
   pub busy-below : (x : ℕ) → isIdle (trackerIn k x) ≡ false → x < k .state .t
   busy-below x b = ⊎-elim (λ h. h) (λ h. absurd (not-both-ways (whole-facts (k .state) (s .0) .tracked .above x h) b)) (lt-or-ge x (k .state .t))
 
-  pub issue-keeps : (x : ℕ) (write bottom : Bool) (g v : ℕ) → Ready (kept (does k (issues x write bottom g v)))
+  pub issue-keeps : (x : ℕ) (access : Access) → Ready (kept (does k (issues x access)))
   unfolding does
-  issue-keeps x write bottom g v = ready-out _ _ _ _ (issue-kept (k .state) (k .bytes) (k .memory) (s .0) (s .1) x write bottom g v)
+  issue-keeps x access = ready-out _ _ _ _ (issue-kept (k .state) (k .bytes) (k .memory) (s .0) (s .1) x access)
 
   pub step-keeps : (x : ℕ) → Ready (kept (does k (steps x)))
   unfolding does

@@ -7,6 +7,7 @@ use Prim.Native.Nat.{ℕ, zero, suc, _+_, _≤_, _<_}
 use native.Mathlib.Omega.{arith}
 use lib.Dec.{eqb}
 use lib.ListN.{length, List·getD-eq-default}
+use Rattle.tracker.specs.declared.Access.{Access}
 use Rattle.laws.specs.Choice.{pick, both}
 use Rattle.laws.proofs.Choice.{not-both-ways}
 use Rattle.laws.proofs.Splice.{lt-or-ge}
@@ -27,7 +28,7 @@ use Rattle.flat.proofs.Demand.{Runs, runs}
 use Rattle.session.specs.Session.{keptOf}
 use Rattle.session.proofs.Session.{session-says, session-leaves}
 use Rattle.circle.proofs.Circle.{trackerIn}
-use Rattle.demands.specs.Event.{Access, Told, Event, events, eventAt, busyAfter, AtRest}
+use Rattle.demands.specs.Event.{Told, Event, events, eventAt, busyAfter, AtRest}
 use Rattle.demands.specs.Row.{Row, told, rowAt}
 use Rattle.demands.specs.Demand2.{When, not-yet, at, Entry, rowOf, OneRow, Extends, Demand2}
 use Rattle.demands.specs.Circle.{other}

@@ -33,7 +33,7 @@ call-count k s c = at (bare c) (does k c) (outcome k s c)
   where
     at : (c' : Call) (o : Out) → Outcome k c' o → o .state .t ≡ k .state .t
     at c' o (Calls.refused r q z) = ap (λ (a : Kept). a .state .t) z
-    at c' o (Calls.issued x write bottom g v h e is) = ap (λ (a : Out). a .state .t) is
+    at c' o (Calls.issued x access h e is) = ap (λ (a : Out). a .state .t) is
     at c' o (Calls.stepped x h b) = step-turn k s x h b .1 .count
     at c' o (Calls.drained lines memory q is) = ap (λ (a : Out). a .state .t) is
 
@@ -154,7 +154,7 @@ module _ (t : ℕ) (o : Order t) where
 
     going-turned-at : (c : Call) (o' : Out) → Outcome k c o' → TurnOf (o .tracker i) (event c (o' .said)) → Going (kept o') (next t i) (noted (event c (o' .said)) notes)
     going-turned-at c o' (Calls.refused r q z) h = absurd (subst (λ a. TurnOf (o .tracker i) (event c a)) q h)
-    going-turned-at c o' (Calls.issued x write bottom g v p e is) h = absurd (subst (λ (a : Out). TurnOf (o .tracker i) (event (issues x write bottom g v) (a .said))) is h)
+    going-turned-at c o' (Calls.issued x access p e is) h = absurd (subst (λ (a : Out). TurnOf (o .tracker i) (event (issues x access) (a .said))) is h)
     going-turned-at c o' (Calls.stepped x p b) h =
         let r = step-turn k (G .is-noted .ready) x p b in
         let e : x ≡ o .tracker i = turn-tracker x (o .tracker i) (trackerIn k x) (r .0) (event (steps x) (does k (steps x) .said)) (r .2) h in
@@ -184,23 +184,23 @@ module _ (t : ℕ) (o : Order t) where
 
     between-at : (c : Call) (o' : Out) → Outcome k c o' → NoTurn (event c (o' .said)) → Between (kept o') (noted (event c (o' .said)) notes)
     between-at c o' (Calls.refused r q z) f = rw (z, q) same-marks
-    between-at c o' (Calls.issued x write bottom g v h e is) f =
-        let a : does k (issues x write bottom g v) .said ≡ ok = ap (λ (a : Out). a .said) is in
+    between-at c o' (Calls.issued x access h e is) f =
+        let a : does k (issues x access) .said ≡ ok = ap (λ (a : Out). a .said) is in
         rw a (record {
           given' = becomes (G .given) x 0;
           under' = becomes (G .under) x true;
-          circle' = Circle.issued (G .circle) x write bottom g v a;
+          circle' = Circle.issued (G .circle) x access a;
           marked' = marks;
-          stays-busy = λ y b. becomes-other notes x y (busy write bottom 0)
+          stays-busy = λ y b. becomes-other notes x y (busy (access .write) (access .bottom) 0)
               (λ q. not-both-ways e (true-busy (notes x) (trackerIn k x) (G .is-noted .is-so x) (subst (λ (z : ℕ). isBusy (notes z) ≡ true) q b)));
         })
       where
-        marks : (y : ℕ) → Marked (becomes notes x (busy write bottom 0) y) (becomes (G .given) x 0 y) (becomes (G .under) x true y)
+        marks : (y : ℕ) → Marked (becomes notes x (busy (access .write) (access .bottom) 0) y) (becomes (G .given) x 0 y) (becomes (G .under) x true y)
         marks y = at (ℕ-discrete y x)
           where
-            at : Dec (y ≡ x) → Marked (becomes notes x (busy write bottom 0) y) (becomes (G .given) x 0 y) (becomes (G .under) x true y)
-            at (yes q) = rw (q, becomes-same notes x (busy write bottom 0), becomes-same (G .given) x 0, becomes-same (G .under) x true) (refl, refl)
-            at (no ne) = rw (becomes-other notes x y (busy write bottom 0) ne, becomes-other (G .given) x y 0 ne, becomes-other (G .under) x y true ne) (G .marked y)
+            at : Dec (y ≡ x) → Marked (becomes notes x (busy (access .write) (access .bottom) 0) y) (becomes (G .given) x 0 y) (becomes (G .under) x true y)
+            at (yes q) = rw (q, becomes-same notes x (busy (access .write) (access .bottom) 0), becomes-same (G .given) x 0, becomes-same (G .under) x true) (refl, refl)
+            at (no ne) = rw (becomes-other notes x y (busy (access .write) (access .bottom) 0) ne, becomes-other (G .given) x y 0 ne, becomes-other (G .under) x y true ne) (G .marked y)
     between-at c o' (Calls.stepped x h b) f =
         let r = step-turn k (G .is-noted .ready) x h b in absurd (no-turn x (r .0) (event (steps x) (does k (steps x) .said)) (r .2) f)
     between-at c o' (Calls.drained lines memory q is) f =

@@ -6,9 +6,10 @@ use native.Mathlib.Omega.{arith}
 use native.Mathlib.Decide.{ℕ-discrete}
 use lib.Dec.{eqb}
 use borrow.Author.Tests.{eq-eqb, ne-eqb}
+use Rattle.tracker.specs.declared.Access.{Access}
 use Rattle.laws.specs.Choice.{pick}
 use Rattle.laws.proofs.Splice.{lt-or-ge}
-use Rattle.demands.specs.Event.{Access, Told, Event, TurnOf}
+use Rattle.demands.specs.Event.{Told, Event, TurnOf}
 use Rattle.demands.specs.Row.{Row, after, told, rowAt}
 use Rattle.demands.specs.Demand2.{When, not-yet, at, Entry}
 

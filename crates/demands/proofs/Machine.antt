@@ -9,6 +9,7 @@ use lib.Dec.{eqb}
 use lib.ListN.{length, set, length-set}
 use lib.Seq.{getD-set-same, getD-set-other}
 use borrow.Author.Tests.{ltb-true, not-true}
+use Rattle.tracker.specs.declared.Access.{Access}
 use Rattle.laws.proofs.Refusal.{refusal-hold, unless-by}
 use Rattle.rules.specs.Calls.{issueTests, stepTests}
 use Rattle.laws.specs.Choice.{pick, both, implies, no as negated}
@@ -24,7 +25,7 @@ use Rattle.rules.specs.State.{trackerAt, lengthsRight}
 use Rattle.rules.specs.Run.{Call, issues, steps, drains, lends}
 use Rattle.flat.specs.Flat as flat
 use Rattle.flat.specs.Flat.{tagged, changesNothing, Course, byTags, course, courseOf, says, rowBy, trackerBy, effectBy, Flat, withRow, Given, Reply, flatIssue, flatStep, flatDrain, flatDoes, flatAnswers, flatEnded}
-use Rattle.demands.specs.Event.{Access, Told, event, events, eventAt}
+use Rattle.demands.specs.Event.{Told, event, events, eventAt}
 use Rattle.demands.specs.Row.{Row, after, told}
 use Rattle.demands.specs.Demand2.{Entry}
 use Rattle.demands.proofs.Watch.{Watch, takenBy, closedBy, closed, watchBy, watched}
@@ -232,28 +233,26 @@ module _ (seen : ℕ → Move) (n : ℕ) (start : Row) {N : ℕ} {f : Flat} {w :
     stepped found b e = by-pending (w .pend x) refl (k .fits x) b (courseOf f found x) (sound (f .row) found _ t (t .phase) b) e
 
     -- an issue to tracker x, which is idle
-    begin : (write bottom : Bool) (g v : ℕ) → isIdle t ≡ true → g < groups n → seen N ≡ moveOf (event (issues x write bottom g v) ok)
-        → Linked seen n start (suc N) (withRow f (f .row) x (issued write bottom g v)) (closed N w (moveOf (event (issues x write bottom g v) ok)))
-    begin write bottom g v h l e =
-        let a : Access = record { write = write; bottom = bottom; group = g; value = v } in
-        next x xl (issued write bottom g v) (f .row) (closed N w (begins x a)) _ (begun N a) refl
+    begin : (a : Access) → isIdle t ≡ true → a .group < groups n → seen N ≡ begins x a → Linked seen n start (suc N) (withRow f (f .row) x (issued a)) (closed N w (begins x a))
+    begin a h l e =
+        next x xl (issued a) (f .row) (closed N w (begins x a)) _ (begun N a) refl
         (begins-now seen (groups n) start (k .inv) (omega arith) x a e l (idle-none t (w .pend x) (k .fits x) h))
         (put-same (w .pend) x (begun N a) x refl) (λ y q. put-other (w .pend) x (begun N a) y q)
-        (first-to-come bottom, record { write-is = refl; group-is = refl; value-is = refl })
+        (first-to-come (a .bottom), record { write-is = refl; group-is = refl; value-is = refl })
 
   abbrev Next : Call → Reply → Type 0
   Next c r = seen N ≡ moveOf (event c (r .said)) → Linked seen n start (suc N) (r .flat) (watchBy N (f .row) w (r .effect) (moveOf (event c (r .said))))
 
-  one-issue : (found : Bool) (x : ℕ) (write bottom : Bool) (g v : ℕ) → Next (issues x write bottom g v) (flatDoes f found (issues x write bottom g v))
+  one-issue : (found : Bool) (x : ℕ) (a : Access) → Next (issues x a) (flatDoes f found (issues x a))
   unfolding flatDoes flatIssue
-  one-issue found x write bottom g v = unless-by _ _ (Next (issues x write bottom g v))
-      (λ q e. let h = refusal-hold (issueTests (f .n) (f .t) x g (trackerAt (f .trackers) x)) refl q in
-      begin x (ltb-true _ _ (h .0)) write bottom g v (h .1 .1 .0) (subst (λ (z : ℕ). g < groups z) (k .n-is) (ltb-true _ _ (h .1 .0))) e) (λ _ e. nothing e)
+  one-issue found x a = unless-by _ _ (Next (issues x a))
+      (λ q e. let h = refusal-hold (issueTests (f .n) (f .t) x a (f .trackers)) refl q in
+      begin x (ltb-true _ _ (h .0)) a (h .1 .1 .0) (subst (λ (z : ℕ). a .group < groups z) (k .n-is) (ltb-true _ _ (h .1 .0))) e) (λ _ e. nothing e)
 
   one-step : (found : Bool) (x : ℕ) → Next (steps x) (flatDoes f found (steps x))
   unfolding flatDoes flatStep
   one-step found x = unless-by _ _ (Next (steps x))
-      (λ q e. let h = refusal-hold (stepTests (f .t) x (trackerAt (f .trackers) x)) refl q in stepped x (ltb-true _ _ (h .0)) found (not-true _ (h .1 .0)) e) (λ _ e. nothing e)
+      (λ q e. let h = refusal-hold (stepTests (f .t) x (f .trackers)) refl q in stepped x (ltb-true _ _ (h .0)) found (not-true _ (h .1 .0)) e) (λ _ e. nothing e)
 
   one-drain : (found : Bool) → Next drains (flatDoes f found drains)
   unfolding flatDoes flatDrain
@@ -267,7 +266,7 @@ module _ (seen : ℕ → Move) (n : ℕ) (start : Row) {N : ℕ} {f : Flat} {w :
       by-said r h e = subst (λ (z : Move). Linked seen n start (suc N) (r .flat) (watchBy N (f .row) w (r .effect) z)) (sym (lent-move (r .said) b m c)) (h (e ∙ lent-move (r .said) b m c))
 
   pub one : (found : Bool) (c : Call) → Next c (flatDoes f found c)
-  one found (issues x write bottom g v) = one-issue found x write bottom g v
+  one found (issues x a) = one-issue found x a
   one found (steps x) = one-step found x
   one found drains = one-drain found
   one found (lends b m c) = one-lent found b m c (one found c)

@@ -117,19 +117,19 @@ true-over (answered write bottom given turns) t t' b h i = absurd (not-both-ways
 
 -- a call with other bytes lent is the same event
 accepted-bare : (c : Call) → Events.accepted c ≡ Events.accepted (bare c)
-accepted-bare (issues x write bottom g v) = refl
+accepted-bare (issues x access) = refl
 accepted-bare (steps x) = refl
 accepted-bare drains = refl
 accepted-bare (lends b m c) = accepted-bare c
 
 given-bare : (c : Call) → Events.given c ≡ Events.given (bare c)
-given-bare (issues x write bottom g v) = refl
+given-bare (issues x access) = refl
 given-bare (steps x) = refl
 given-bare drains = refl
 given-bare (lends b m c) = given-bare c
 
 ended-bare : (b : Told) (k : ℕ) (c : Call) → Events.ended b k c ≡ Events.ended b k (bare c)
-ended-bare b k (issues x write bottom g v) = refl
+ended-bare b k (issues x access) = refl
 ended-bare b k (steps x) = refl
 ended-bare b k drains = refl
 ended-bare b k (lends bytes m c) = ended-bare b k c
@@ -184,11 +184,11 @@ module _ (k : Kept) (notes : ℕ → Note) (K : Noted k notes) where
 
   noted-at : (c : Call) (o : Out) → Outcome k c o → (y : ℕ) → True (noted (event c (o .said)) notes y) (trackerIn (kept o) y)
   noted-at c o (Calls.refused r q z) = rw (z, q) (K .is-so)
-  noted-at c o (Calls.issued x write bottom g v h e is) =
-      rw (ap (λ (a : Out). a .said) is) (each (λ (y : ℕ) (t : Tracker). True (becomes notes x (busy write bottom 0) y) t) k (kept o) x (Tracker.issued write bottom g v)
-      (anew k (kept o) x (Tracker.issued write bottom g v) (K .ready) h (ap (λ (a : Out). a .state .n) is) (ap (λ (a : Out). a .state .t) is) (ap (λ (a : Out). a .state .trackers) is))
-      (rw (becomes-same notes x (busy write bottom 0)) (record { is-busy = first-busy bottom; write-is = refl; bottom-is = refl; counts = omega arith }))
-      (λ y ne. rw (becomes-other notes x y (busy write bottom 0) ne) (K .is-so y)))
+  noted-at c o (Calls.issued x access h e is) =
+      rw (ap (λ (a : Out). a .said) is) (each (λ (y : ℕ) (t : Tracker). True (becomes notes x (busy (access .write) (access .bottom) 0) y) t) k (kept o) x (Tracker.issued access)
+      (anew k (kept o) x (Tracker.issued access) (K .ready) h (ap (λ (a : Out). a .state .n) is) (ap (λ (a : Out). a .state .t) is) (ap (λ (a : Out). a .state .trackers) is))
+      (rw (becomes-same notes x (busy (access .write) (access .bottom) 0)) (record { is-busy = first-busy (access .bottom); write-is = refl; bottom-is = refl; counts = omega arith }))
+      (λ y ne. rw (becomes-other notes x y (busy (access .write) (access .bottom) 0) ne) (K .is-so y)))
   noted-at c o (Calls.stepped x h b) = let r = step-turn k (K .ready) x h b in noted-turn x (r .0) (kept o) (event (steps x) (o .said)) b (r .1) (r .2)
   noted-at c o (Calls.drained lines memory q is) = rw is (K .is-so)
 

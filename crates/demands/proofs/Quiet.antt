@@ -165,12 +165,12 @@ module _ (k : Kept) (row : Row) (a : Ok k row) (w : Bool) (Q : w ≡ false → Q
 
   quiet-at : (c : Call) (o : Out) → Outcome k c o → Ready (kept o) → writtenBy (event c (o .said)) w ≡ false → Quiet (kept o)
   quiet-at c o (Calls.refused r q is) s' z = rw is (Q (subst (λ d. writtenBy (event c d) w ≡ false) q z))
-  quiet-at c o (Calls.issued x write bottom g v h e is) s' z =
-      let f = both-reads write w (subst (λ (d : Out). writtenBy (event (issues x write bottom g v) (d .said)) w ≡ false) is z) in
+  quiet-at c o (Calls.issued x access h e is) s' z =
+      let f = both-reads (access .write) w (subst (λ (d : Out). writtenBy (event (issues x access) (d .said)) w ≡ false) is z) in
       record {
         clean = rw is (Q (f .1) .clean);
-        reads = each (λ (y : ℕ) (t : Tracker). isIdle t ≡ false → t .write ≡ false) k (kept o) x (Tracker.issued write bottom g v)
-            (anew k (kept o) x (Tracker.issued write bottom g v) s h (ap (λ (d : Out). d .state .n) is) (ap (λ (d : Out). d .state .t) is) (ap (λ (d : Out). d .state .trackers) is))
+        reads = each (λ (y : ℕ) (t : Tracker). isIdle t ≡ false → t .write ≡ false) k (kept o) x (Tracker.issued access)
+            (anew k (kept o) x (Tracker.issued access) s h (ap (λ (d : Out). d .state .n) is) (ap (λ (d : Out). d .state .t) is) (ap (λ (d : Out). d .state .trackers) is))
             (λ _. f .0) (λ y ne. Q (f .1) .reads y);
       }
   quiet-at c o (Calls.stepped x h b) s' z =

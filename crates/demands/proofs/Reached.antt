@@ -6,6 +6,7 @@ use mathlib.Core.List.{List, [], _∷_, _++_}
 use Prim.Native.Nat.{ℕ, _<_}
 use native.Mathlib.Omega.{arith}
 use lib.ListN.{replicate}
+use Rattle.tracker.specs.Tracker.{readOf, writeOf}
 use Rattle.laws.specs.Choice.{both, implies, no}
 use Rattle.laws.specs.Bytes.{part, splice, fits, putW, value, bytes, numberAt}
 use Rattle.laws.specs.Scan.{first, all}
@@ -21,25 +22,15 @@ use Rattle.rules.specs.State.{lengthsRight}
 use Rattle.rules.specs.Whole.{limits, holds, lineWhole, trackerWhole, whole}
 use Rattle.rules.specs.Place.{rowsFit, placeLine, placeHand, writtenBack, placeMemory, bringIn, drained}
 use Rattle.rules.specs.Step.{probe, onMap, map, leafRead, putIn, writeUnder1, writeUnder0, leafWrite, finish, inLine, fit, turnOf}
-use Rattle.rules.specs.Calls.{fresh, opened, issueNo, issue as issuing, stepNo, step, allIdle, drainNo, drain}
+use Rattle.rules.specs.Calls.{fresh, opened, issueNo, issue, stepNo, step, allIdle, drainNo, drain}
 use Rattle.rules.specs.Run.{Call, issues, steps, Kept, kept, does, answers, ended}
 use Rattle.session.specs.Session.{Starts, over}
 use Rattle.circle.specs.Order.{next, inOrder}
 use Rattle.circle.specs.LastTurn.{lastTurn}
-use Rattle.demands.specs.Event.{Access, Told, Event, begins, goes-on, ends, events, busyFrom}
+use Rattle.demands.specs.Event.{Told, Event, begins, goes-on, ends, events, busyFrom}
 use Rattle.demands.specs.Circle.{Note, other, answered, Goes, stays, turned, passed, between, under}
 use Rattle.demands.specs.Reached.{Reached}
 use Rattle.demands.proofs.Runs.{stateOf, AllPlain, said-answers, session-of, fresh-starts, opened-starts}
-
--- a call that issues an access
-abbrev issue : ℕ → Access → Call
-issue x a = issues x (a .write) (a .bottom) (a .group) (a .value)
-
-abbrev readOf : (bottom : Bool) (g : ℕ) → Access
-readOf bottom g = record { write = false; bottom = bottom; group = g; value = 0 }
-
-abbrev writeOf : (bottom : Bool) (g v : ℕ) → Access
-writeOf bottom g v = record { write = true; bottom = bottom; group = g; value = v }
 
 -- a run from the start k, all of whose events are turns of the circle or stand between them
 module _ (t : ℕ) (k : Kept) (start : Starts t (stateOf (k .state)) (k .bytes) (k .memory)) where
@@ -65,7 +56,7 @@ abbrev two : Kept
 two = kept (fresh 2 2 3 (replicate 192 7) (replicate 192 9))
 
 two-starts : Starts 2 (stateOf (two .state)) (two .bytes) (two .memory)
-unfolding both implies no refusal unless leafOf byteOf groups mapBlockOf mapByteOf mapBitOf mapBlocks part splice fits putW value bytes numberAt first all bitOf withBit inLimits bitAt putBit allZero blockOr0 clearedMap leafBit trueAt isTrue used blockOf changed holder held has word heldBy cleaned lineOf lowestFree looseFrom victim after lengthsRight limits holds lineWhole trackerWhole whole rowsFit placeLine placeHand writtenBack placeMemory bringIn drained probe onMap map leafRead putIn writeUnder1 writeUnder0 leafWrite finish inLine fit turnOf fresh opened issueNo issuing stepNo step allIdle drainNo drain does answers next events
+unfolding both implies no refusal unless leafOf byteOf groups mapBlockOf mapByteOf mapBitOf mapBlocks part splice fits putW value bytes numberAt first all bitOf withBit inLimits bitAt putBit allZero blockOr0 clearedMap leafBit trueAt isTrue used blockOf changed holder held has word heldBy cleaned lineOf lowestFree looseFrom victim after lengthsRight limits holds lineWhole trackerWhole whole rowsFit placeLine placeHand writtenBack placeMemory bringIn drained probe onMap map leafRead putIn writeUnder1 writeUnder0 leafWrite finish inLine fit turnOf fresh opened issueNo issue stepNo step allIdle drainNo drain does answers next events
 two-starts = fresh-starts 2 2 3 (replicate 192 7) (replicate 192 9) refl refl
 
 -- One tracker, and a memory of one leaf with one group that is not zero: it is read, or emptied, which clears its bit.
@@ -73,13 +64,13 @@ abbrev one : Kept
 one = kept (opened 1 1 2 (replicate 128 7) ((5 ∷ replicate 63 0) ++ (1 ∷ replicate 63 0)))
 
 one-starts : Starts 1 (stateOf (one .state)) (one .bytes) (one .memory)
-unfolding both implies no refusal unless leafOf byteOf groups mapBlockOf mapByteOf mapBitOf mapBlocks part splice fits putW value bytes numberAt first all bitOf withBit inLimits bitAt putBit allZero blockOr0 clearedMap leafBit trueAt isTrue used blockOf changed holder held has word heldBy cleaned lineOf lowestFree looseFrom victim after lengthsRight limits holds lineWhole trackerWhole whole rowsFit placeLine placeHand writtenBack placeMemory bringIn drained probe onMap map leafRead putIn writeUnder1 writeUnder0 leafWrite finish inLine fit turnOf fresh opened issueNo issuing stepNo step allIdle drainNo drain does answers next events
+unfolding both implies no refusal unless leafOf byteOf groups mapBlockOf mapByteOf mapBitOf mapBlocks part splice fits putW value bytes numberAt first all bitOf withBit inLimits bitAt putBit allZero blockOr0 clearedMap leafBit trueAt isTrue used blockOf changed holder held has word heldBy cleaned lineOf lowestFree looseFrom victim after lengthsRight limits holds lineWhole trackerWhole whole rowsFit placeLine placeHand writtenBack placeMemory bringIn drained probe onMap map leafRead putIn writeUnder1 writeUnder0 leafWrite finish inLine fit turnOf fresh opened issueNo issue stepNo step allIdle drainNo drain does answers next events
 one-starts = opened-starts 1 1 2 (replicate 128 7) ((5 ∷ replicate 63 0) ++ (1 ∷ replicate 63 0)) refl refl refl
 
 pub reached-two : (write bottom : Bool) → Reached 2 write bottom
-unfolding both implies no refusal unless leafOf byteOf groups mapBlockOf mapByteOf mapBitOf mapBlocks part splice fits putW value bytes numberAt first all bitOf withBit inLimits bitAt putBit allZero blockOr0 clearedMap leafBit trueAt isTrue used blockOf changed holder held has word heldBy cleaned lineOf lowestFree looseFrom victim after lengthsRight limits holds lineWhole trackerWhole whole rowsFit placeLine placeHand writtenBack placeMemory bringIn drained probe onMap map leafRead putIn writeUnder1 writeUnder0 leafWrite finish inLine fit turnOf fresh opened issueNo issuing stepNo step allIdle drainNo drain does answers next events
+unfolding both implies no refusal unless leafOf byteOf groups mapBlockOf mapByteOf mapBitOf mapBlocks part splice fits putW value bytes numberAt first all bitOf withBit inLimits bitAt putBit allZero blockOr0 clearedMap leafBit trueAt isTrue used blockOf changed holder held has word heldBy cleaned lineOf lowestFree looseFrom victim after lengthsRight limits holds lineWhole trackerWhole whole rowsFit placeLine placeHand writtenBack placeMemory bringIn drained probe onMap map leafRead putIn writeUnder1 writeUnder0 leafWrite finish inLine fit turnOf fresh opened issueNo issue stepNo step allIdle drainNo drain does answers next events
 reached-two false false =
-    reaches 2 two two-starts {i = 1} (issue 1 (writeOf false 16 10) ∷ steps 1 ∷ issue 0 (readOf false 17) ∷ steps 0 ∷ steps 1 ∷ steps 0 ∷ steps 1 ∷ steps 0 ∷ steps 0 ∷ []) (omega arith) (
+    reaches 2 two two-starts {i = 1} (issues 1 (writeOf false 16 10) ∷ steps 1 ∷ issues 0 (readOf false 17) ∷ steps 0 ∷ steps 1 ∷ steps 0 ∷ steps 1 ∷ steps 0 ∷ steps 0 ∷ []) (omega arith) (
     between (begins 1 (writeOf false 16 10)) tt ( -- 1 is to write
     turned (goes-on 1) refl ( -- 1: Map, it holds
     between (begins 0 (readOf false 17)) tt ( -- 0 is to read
@@ -92,7 +83,7 @@ reached-two false false =
     turned (ends 0 (Told.read 0) 4) refl ( -- 0: Leaf, answered
     stays))))))))))) refl (omega arith, (tt, (omega arith, (tt, (tt, (tt, (tt, (tt, (tt, tt))))))))) false false 0 refl
 reached-two true false =
-    reaches 2 two two-starts {i = 1} (issue 1 (writeOf false 16 10) ∷ steps 1 ∷ issue 0 (writeOf false 1 11) ∷ steps 0 ∷ steps 1 ∷ steps 0 ∷ steps 1 ∷ steps 0 ∷ steps 0 ∷ steps 0 ∷ []) (omega arith) (
+    reaches 2 two two-starts {i = 1} (issues 1 (writeOf false 16 10) ∷ steps 1 ∷ issues 0 (writeOf false 1 11) ∷ steps 0 ∷ steps 1 ∷ steps 0 ∷ steps 1 ∷ steps 0 ∷ steps 0 ∷ steps 0 ∷ []) (omega arith) (
     between (begins 1 (writeOf false 16 10)) tt ( -- 1 is to write
     turned (goes-on 1) refl ( -- 1: Map, it holds
     between (begins 0 (writeOf false 1 11)) tt ( -- 0 is to write
@@ -107,7 +98,7 @@ reached-two true false =
     turned (ends 0 Told.done 5) refl ( -- 0: Finish, answered
     stays))))))))))))) refl (omega arith, (tt, (omega arith, (tt, (tt, (tt, (tt, (tt, (tt, (tt, tt)))))))))) true false 0 refl
 reached-two false true =
-    reaches 2 two two-starts {i = 0} (issue 0 (readOf true 17) ∷ issue 1 (writeOf false 16 10) ∷ steps 0 ∷ steps 1 ∷ steps 0 ∷ steps 1 ∷ steps 0 ∷ steps 1 ∷ steps 0 ∷ steps 0 ∷ []) (omega arith) (
+    reaches 2 two two-starts {i = 0} (issues 0 (readOf true 17) ∷ issues 1 (writeOf false 16 10) ∷ steps 0 ∷ steps 1 ∷ steps 0 ∷ steps 1 ∷ steps 0 ∷ steps 1 ∷ steps 0 ∷ steps 0 ∷ []) (omega arith) (
     between (begins 0 (readOf true 17)) tt ( -- 0 is to read
     between (begins 1 (writeOf false 16 10)) tt ( -- 1 is to write
     turned (goes-on 0) refl ( -- 0: Probe
@@ -121,7 +112,7 @@ reached-two false true =
     turned (ends 0 (Told.read 0) 5) refl ( -- 0: Leaf, answered
     stays)))))))))))) refl (omega arith, (omega arith, (tt, (tt, (tt, (tt, (tt, (tt, (tt, (tt, tt)))))))))) false true 0 refl
 reached-two true true =
-    reaches 2 two two-starts {i = 0} (issue 0 (writeOf true 1 11) ∷ issue 1 (writeOf false 16 10) ∷ steps 0 ∷ steps 1 ∷ steps 0 ∷ steps 1 ∷ steps 0 ∷ steps 1 ∷ steps 0 ∷ steps 0 ∷ steps 0 ∷ []) (omega arith) (
+    reaches 2 two two-starts {i = 0} (issues 0 (writeOf true 1 11) ∷ issues 1 (writeOf false 16 10) ∷ steps 0 ∷ steps 1 ∷ steps 0 ∷ steps 1 ∷ steps 0 ∷ steps 1 ∷ steps 0 ∷ steps 0 ∷ steps 0 ∷ []) (omega arith) (
     between (begins 0 (writeOf true 1 11)) tt ( -- 0 is to write
     between (begins 1 (writeOf false 16 10)) tt ( -- 1 is to write
     turned (goes-on 0) refl ( -- 0: Probe
@@ -138,29 +129,29 @@ reached-two true true =
     stays)))))))))))))) refl (omega arith, (omega arith, (tt, (tt, (tt, (tt, (tt, (tt, (tt, (tt, (tt, tt))))))))))) true true 0 refl
 
 pub reached-one : (write bottom : Bool) → Reached 1 write bottom
-unfolding both implies no refusal unless leafOf byteOf groups mapBlockOf mapByteOf mapBitOf mapBlocks part splice fits putW value bytes numberAt first all bitOf withBit inLimits bitAt putBit allZero blockOr0 clearedMap leafBit trueAt isTrue used blockOf changed holder held has word heldBy cleaned lineOf lowestFree looseFrom victim after lengthsRight limits holds lineWhole trackerWhole whole rowsFit placeLine placeHand writtenBack placeMemory bringIn drained probe onMap map leafRead putIn writeUnder1 writeUnder0 leafWrite finish inLine fit turnOf fresh opened issueNo issuing stepNo step allIdle drainNo drain does answers next events
+unfolding both implies no refusal unless leafOf byteOf groups mapBlockOf mapByteOf mapBitOf mapBlocks part splice fits putW value bytes numberAt first all bitOf withBit inLimits bitAt putBit allZero blockOr0 clearedMap leafBit trueAt isTrue used blockOf changed holder held has word heldBy cleaned lineOf lowestFree looseFrom victim after lengthsRight limits holds lineWhole trackerWhole whole rowsFit placeLine placeHand writtenBack placeMemory bringIn drained probe onMap map leafRead putIn writeUnder1 writeUnder0 leafWrite finish inLine fit turnOf fresh opened issueNo issue stepNo step allIdle drainNo drain does answers next events
 reached-one false false =
-    reaches 1 one one-starts {i = 0} (issue 0 (readOf false 0) ∷ steps 0 ∷ steps 0 ∷ []) (omega arith) (
+    reaches 1 one one-starts {i = 0} (issues 0 (readOf false 0) ∷ steps 0 ∷ steps 0 ∷ []) (omega arith) (
     between (begins 0 (readOf false 0)) tt ( -- 0 is to read
     turned (goes-on 0) refl ( -- Map
     turned (ends 0 (Told.read 5) 2) refl ( -- Leaf, answered
     stays)))) refl (omega arith, (tt, (tt, tt))) false false 0 refl
 reached-one true false =
-    reaches 1 one one-starts {i = 0} (issue 0 (writeOf false 0 0) ∷ steps 0 ∷ steps 0 ∷ steps 0 ∷ []) (omega arith) (
+    reaches 1 one one-starts {i = 0} (issues 0 (writeOf false 0 0) ∷ steps 0 ∷ steps 0 ∷ steps 0 ∷ []) (omega arith) (
     between (begins 0 (writeOf false 0 0)) tt ( -- 0 is to write
     turned (goes-on 0) refl ( -- Map
     turned (goes-on 0) refl ( -- Leaf
     turned (ends 0 Told.done 3) refl ( -- Finish, answered
     stays))))) refl (omega arith, (tt, (tt, (tt, tt)))) true false 0 refl
 reached-one false true =
-    reaches 1 one one-starts {i = 0} (issue 0 (readOf true 0) ∷ steps 0 ∷ steps 0 ∷ steps 0 ∷ []) (omega arith) (
+    reaches 1 one one-starts {i = 0} (issues 0 (readOf true 0) ∷ steps 0 ∷ steps 0 ∷ steps 0 ∷ []) (omega arith) (
     between (begins 0 (readOf true 0)) tt ( -- 0 is to read
     turned (goes-on 0) refl ( -- Probe
     turned (goes-on 0) refl ( -- Map
     turned (ends 0 (Told.read 5) 3) refl ( -- Leaf, answered
     stays))))) refl (omega arith, (tt, (tt, (tt, tt)))) false true 0 refl
 reached-one true true =
-    reaches 1 one one-starts {i = 0} (issue 0 (writeOf true 0 0) ∷ steps 0 ∷ steps 0 ∷ steps 0 ∷ steps 0 ∷ []) (omega arith) (
+    reaches 1 one one-starts {i = 0} (issues 0 (writeOf true 0 0) ∷ steps 0 ∷ steps 0 ∷ steps 0 ∷ steps 0 ∷ []) (omega arith) (
     between (begins 0 (writeOf true 0 0)) tt ( -- 0 is to write
     turned (goes-on 0) refl ( -- Probe
     turned (goes-on 0) refl ( -- Map

@@ -1,8 +1,8 @@
 -- Every run of the rules on its own bytes is a session: what the rules do meets the promises of the code's calls.
 use mathlib.Core.Path.{_≡_, refl, sym, _∙_, subst}
-use mathlib.Core.Bool.{Bool}
 use mathlib.Core.List.{List, [], _∷_}
 use Prim.Native.Nat.{ℕ, _<_}
+use Rattle.tracker.specs.declared.Access.{Access}
 use Rattle.laws.proofs.Refusal.{unless-by}
 use Rattle.tracker.specs.declared.Answer.{Answer}
 use Rattle.tracker.specs.declared.Answer.the-variants.{Accepted, Wait, Moved, Read, Done, Same, No}
@@ -45,13 +45,13 @@ did-out : (o : calls.Out) (b m : List ℕ) → o .bytes ≡ b → o .memory ≡ 
 did-out o b m p q = λ i. record { said = says-answer (o .said) i; state = o .state; bytes = sym p i; memory = sym q i }
 
 -- what an issue and a drain leave
-issue-bytes : (s : rules.State) (b m : List ℕ) (x : ℕ) (write bottom : Bool) (g v : ℕ) → issue s b m x write bottom g v .bytes ≡ b
+issue-bytes : (s : rules.State) (b m : List ℕ) (x : ℕ) (access : Access) → issue s b m x access .bytes ≡ b
 unfolding issue
-issue-bytes s b m x write bottom g v = unless-by {c = issueNo s b m x g} _ _ (λ (o : calls.Out). o .bytes ≡ b) (λ _. refl) (λ _. refl)
+issue-bytes s b m x access = unless-by {c = issueNo s b m x access} _ _ (λ (o : calls.Out). o .bytes ≡ b) (λ _. refl) (λ _. refl)
 
-issue-memory : (s : rules.State) (b m : List ℕ) (x : ℕ) (write bottom : Bool) (g v : ℕ) → issue s b m x write bottom g v .memory ≡ m
+issue-memory : (s : rules.State) (b m : List ℕ) (x : ℕ) (access : Access) → issue s b m x access .memory ≡ m
 unfolding issue
-issue-memory s b m x write bottom g v = unless-by {c = issueNo s b m x g} _ _ (λ (o : calls.Out). o .memory ≡ m) (λ _. refl) (λ _. refl)
+issue-memory s b m x access = unless-by {c = issueNo s b m x access} _ _ (λ (o : calls.Out). o .memory ≡ m) (λ _. refl) (λ _. refl)
 
 drain-bytes : (s : rules.State) (b m : List ℕ) → drain s b m .bytes ≡ b
 unfolding drain
@@ -59,7 +59,7 @@ drain-bytes s b m = unless-by {c = drainNo s b m} _ _ (λ (o : calls.Out). o .by
 
 -- a call of a session, on its own bytes
 abbrev pub Plain : Call → Type 0
-Plain (issues x write bottom g v) = v < 4294967296
+Plain (issues x access) = access .value < 4294967296
 Plain (steps x) = Unit {0}
 Plain drains = Unit {0}
 Plain (lends b m c) = ⊥
@@ -70,13 +70,13 @@ AllPlain (c ∷ cs) = Plain c × AllPlain cs
 
 met-of : (k : Kept) (c : Call) → Plain c → Met (stateOf (k .state)) (k .bytes) (k .memory) c (outOf (does k c)) (does k c .bytes) (does k c .memory)
 unfolding does
-met-of k (issues x write bottom g v) h =
-    let o = issue (k .state) (k .bytes) (k .memory) x write bottom g v in
-    let p = issue-bytes (k .state) (k .bytes) (k .memory) x write bottom g v in
-    let q = issue-memory (k .state) (k .bytes) (k .memory) x write bottom g v in
-    subst (λ (m : List ℕ). Met (stateOf (k .state)) (k .bytes) (k .memory) (issues x write bottom g v) (outOf o) (o .bytes) m) (sym q)
-    (subst (λ (b : List ℕ). Met (stateOf (k .state)) (k .bytes) (k .memory) (issues x write bottom g v) (outOf o) b (k .memory)) (sym p)
-    (issued (outOf o) x write bottom g v h (did-out o (k .bytes) (k .memory) p q)))
+met-of k (issues x access) h =
+    let o = issue (k .state) (k .bytes) (k .memory) x access in
+    let p = issue-bytes (k .state) (k .bytes) (k .memory) x access in
+    let q = issue-memory (k .state) (k .bytes) (k .memory) x access in
+    subst (λ (m : List ℕ). Met (stateOf (k .state)) (k .bytes) (k .memory) (issues x access) (outOf o) (o .bytes) m) (sym q)
+    (subst (λ (b : List ℕ). Met (stateOf (k .state)) (k .bytes) (k .memory) (issues x access) (outOf o) b (k .memory)) (sym p)
+    (issued (outOf o) x access h (did-out o (k .bytes) (k .memory) p q)))
 met-of k (steps x) h = let o = step (k .state) (k .bytes) (k .memory) x in stepped (outOf o) (o .bytes) (o .memory) x (did-out o (o .bytes) (o .memory) refl refl)
 met-of k drains h =
     let o = drain (k .state) (k .bytes) (k .memory) in

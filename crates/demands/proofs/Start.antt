@@ -57,7 +57,7 @@ begun t s b m (opened n l b' m' r e a) =
 
 -- the values of a session are u32s
 met-value : {s : State} {b m b' m' : List ℕ} {c : Call} {r : Out} → Met s b m c r b' m' → Value32 c
-met-value (issued r x write bottom g v q e) = q
+met-value (issued r x access q e) = q
 met-value (stepped r b' m' x e) = tt
 met-value (drained r m' e) = tt
 

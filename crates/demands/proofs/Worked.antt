@@ -1,9 +1,11 @@
 -- A run of two trackers with an eviction, its log computed: the first write takes effect before a read and ends after it.
 use mathlib.Core.Path.{_≡_, refl}
-use mathlib.Core.Bool.{Bool, true, false}
+use mathlib.Core.Bool.{true, false}
 use mathlib.Core.List.{List, [], _∷_}
 use Prim.Native.Nat.{ℕ, zero, suc}
 use lib.ListN.{replicate}
+use Rattle.tracker.specs.declared.Access.{Access}
+use Rattle.tracker.specs.Tracker.{readOf, writeOf}
 use Rattle.laws.specs.Choice.{both, implies, no}
 use Rattle.laws.specs.Refusal.{refusal, unless}
 use Rattle.laws.specs.Bytes.{part, splice, fits, putW, value, bytes, numberAt}
@@ -24,7 +26,7 @@ use Rattle.rules.specs.Calls.{fresh, issueNo, issue, stepNo, step, allIdle, dra
 use Rattle.rules.specs.Run.{Call, issues, steps, drains, Kept, kept, does, answers, ended}
 use Rattle.flat.specs.Flat.{tagged, someHolds, flatIssue, flatStep, flatDrain, flatDoes, flatAnswers, flatEnded}
 use Rattle.flat.specs.Demand.{found, given}
-use Rattle.demands.specs.Event.{Access, events, busyFrom, busyAfter, writtenFrom}
+use Rattle.demands.specs.Event.{events, busyFrom, busyAfter, writtenFrom}
 use Rattle.demands.specs.Demand2.{at, Entry, Log, OneRow}
 use Rattle.demands.proofs.Log.{put, more}
 use Rattle.demands.proofs.Watch.{watched, logged}
@@ -39,22 +41,16 @@ begun = kept (fresh 4 2 3 (replicate 192 7) (replicate 320 9))
 -- A read sees a write that is not yet done; the next write waits for it; a third leaf finds no free line, and the first, changed, is written back;
 -- it is brought in again and read; a leaf is emptied; a drain.
 abbrev calls : List Call
-calls = issues 0 true false 17 10 ∷ issues 1 false true 17 0 ∷ steps 0 ∷ steps 0 ∷ steps 1
-    ∷ issues 1 true false 33 11 ∷ steps 1 ∷ steps 0 ∷ steps 1 ∷ steps 1
-    ∷ issues 0 true true 49 12 ∷ steps 0 ∷ steps 0 ∷ steps 1 ∷ steps 0 ∷ steps 0 ∷ steps 0
-    ∷ issues 1 false false 17 0 ∷ steps 1 ∷ steps 1
-    ∷ issues 0 true false 33 0 ∷ steps 0 ∷ steps 0 ∷ steps 0
+calls = issues 0 (writeOf false 17 10) ∷ issues 1 (readOf true 17) ∷ steps 0 ∷ steps 0 ∷ steps 1
+    ∷ issues 1 (writeOf false 33 11) ∷ steps 1 ∷ steps 0 ∷ steps 1 ∷ steps 1
+    ∷ issues 0 (writeOf true 49 12) ∷ steps 0 ∷ steps 0 ∷ steps 1 ∷ steps 0 ∷ steps 0 ∷ steps 0
+    ∷ issues 1 (readOf false 17) ∷ steps 1 ∷ steps 1
+    ∷ issues 0 (writeOf false 33 0) ∷ steps 0 ∷ steps 0 ∷ steps 0
     ∷ drains ∷ []
 
 -- an entry that has ended
 abbrev entry : (x : ℕ) → Access → (issued moment ending : ℕ) → Entry
 entry x a i m j = record { tracker = x; access = a; issued = i; moment = m; ending = at j }
-
-abbrev writes : (bottom : Bool) (g v : ℕ) → Access
-writes bottom g v = record { write = true; bottom = bottom; group = g; value = v }
-
-abbrev reads : (bottom : Bool) (g : ℕ) → Access
-reads bottom g = record { write = false; bottom = bottom; group = g; value = 0 }
 
 abbrev front : ℕ → (ℕ → Entry) → List Entry
 front zero log = []
@@ -63,8 +59,8 @@ front (suc n) log = log 0 ∷ front n (λ q. log (suc q))
 pub record Worked : Type 0 where
   pub accepted : fresh 4 2 3 (replicate 192 7) (replicate 320 9) .said ≡ ok
   pub count : logged begun calls .count ≡ 6
-  pub log : front 6 (logged begun calls .log) ≡ entry 0 (writes false 17 10) 0 3 7 ∷ entry 1 (reads true 17) 1 4 4 ∷ entry 1 (writes false 33 11) 5 9 13 ∷ entry 0 (writes true 49 12) 10 15 16
-      ∷ entry 1 (reads false 17) 17 19 19 ∷ entry 0 (writes false 33 0) 20 22 23 ∷ []
+  pub log : front 6 (logged begun calls .log) ≡ entry 0 (writeOf false 17 10) 0 3 7 ∷ entry 1 (readOf true 17) 1 4 4 ∷ entry 1 (writeOf false 33 11) 5 9 13 ∷ entry 0 (writeOf true 49 12) 10 15 16
+      ∷ entry 1 (readOf false 17) 17 19 19 ∷ entry 0 (writeOf false 33 0) 20 22 23 ∷ []
   -- at rest: nobody is busy, and nothing was written since the drain
   pub idle : (busyAfter (events calls (answers begun calls)) 0 ≡ false) × (busyAfter (events calls (answers begun calls)) 1 ≡ false)
   pub clean : writtenFrom false (events calls (answers begun calls)) ≡ false

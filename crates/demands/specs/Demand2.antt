@@ -6,13 +6,14 @@ use mathlib.Core.List.{List, _++_}
 use mathlib.Core.Bool.{false}
 use Prim.Native.Nat.{ℕ, _≤_, _<_}
 use lib.ListN.{length}
+use Rattle.tracker.specs.declared.Access.{Access}
 use Rattle.geometry.specs.TagMemory.{groups}
 use Rattle.memory.specs.PlainReading.{plainReading}
 use Rattle.tracker.specs.declared.Answer.{Answer}
 use Rattle.rules.specs.Run.{Call}
 use Rattle.cache.specs.declared.State.{State}
 use Rattle.session.specs.Session.{Starts, Session, said}
-use Rattle.demands.specs.Event.{Access, Told, Event, begins, ends, events, eventAt, TurnOf, busyAfter, AtRest}
+use Rattle.demands.specs.Event.{Told, Event, begins, ends, events, eventAt, TurnOf, busyAfter, AtRest}
 use Rattle.demands.specs.Row.{Row, told, rowAt}
 
 -- An access that took effect: its tracker, itself as its issue named it, and the numbers of the calls where it was issued, took effect, and ended, if it has.

@@ -5,16 +5,10 @@ use mathlib.Core.Path.{_≡_}
 use Prim.Native.Nat.{ℕ}
 use lib.ListN.{getD}
 use Rattle.laws.specs.Choice.{pick}
+use Rattle.tracker.specs.declared.Access.{Access}
 use Rattle.tracker.specs.Answer.{Said}
 use Rattle.rules.specs.Run.{Call, issues, steps, drains, lends}
 use Rattle.circle.specs.Order.{becomes}
-
--- an access as its issue names it
-pub record Access : Type 0 where
-  pub write : Bool
-  pub bottom : Bool
-  pub group : ℕ
-  pub value : ℕ
 
 -- what an access is told in the end, but for its turns
 pub data Told : Type 0 where
@@ -33,21 +27,21 @@ pub data Event : Type 0 where
 
 -- by what the call said: `ok`,
 abbrev pub accepted : Call → Event
-accepted (issues x write bottom g v) = begins x (record { write = write; bottom = bottom; group = g; value = v })
+accepted (issues x access) = begins x access
 accepted (steps x) = refused
 accepted drains = drained
 accepted (lends b m c) = accepted c
 
 -- `wait` or `moved`,
 abbrev pub given : Call → Event
-given (issues x write bottom g v) = refused
+given (issues x access) = refused
 given (steps x) = goes-on x
 given drains = refused
 given (lends b m c) = given c
 
 -- or an ending
 abbrev pub ended : Told → ℕ → Call → Event
-ended b turns (issues x write bottom g v) = refused
+ended b turns (issues x access) = refused
 ended b turns (steps x) = ends x b turns
 ended b turns drains = refused
 ended b turns (lends bytes m c) = ended b turns c

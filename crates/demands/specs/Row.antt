@@ -1,8 +1,9 @@
 -- A flat row of tags, and accesses done whole on it, one after another.
 use Prim.Native.Nat.{ℕ, zero, suc}
 use lib.Dec.{eqb}
+use Rattle.tracker.specs.declared.Access.{Access}
 use Rattle.laws.specs.Choice.{pick, both}
-use Rattle.demands.specs.Event.{Access, Told, read, done, same}
+use Rattle.demands.specs.Event.{Told, read, done, same}
 
 -- a number for each group
 abbrev pub Row : Type 0

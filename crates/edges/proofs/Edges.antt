@@ -1,25 +1,24 @@
 -- The table holds: each case by the law of its call's way out.
 use mathlib.Core.Path.{_≡_, refl, sym, _∙_}
-use mathlib.Core.Bool.{Bool, true, false}
+use mathlib.Core.Bool.{true, false}
 use mathlib.Core.List.{List}
-use Prim.Native.Nat.{ℕ, _+_, _*_, _≤_, _<_}
+use Prim.Native.Nat.{ℕ, _+_, _≤_, _<_}
 use native.Mathlib.Omega.{arith}
-use borrow.Author.Tests.{le-leb, lt-leb, eq-eqb, le-ltb, lt-ltb}
-use lib.Dec.{leb}
+use borrow.Author.Tests.{le-leb, lt-leb}
+use lib.Dec.{ltb}
 use lib.ListN.{length}
-use Rattle.geometry.specs.TagMemory.{groups}
+use Rattle.geometry.specs.TagMemory.{groups, inLimits}
 use Rattle.laws.specs.Refusal.{refusal, unless}
-use Rattle.laws.specs.Choice.{pick, both}
+use Rattle.laws.specs.Choice.{pick}
 use Rattle.laws.proofs.Choice.{both-true, both-false-left, both-false-right}
-use Rattle.geometry.specs.TagMemory.{inLimits, memoryLength}
 use Rattle.geometry.proofs.Lengths.{length-1, length-512, length-513, length-most}
 use Rattle.geometry.proofs.Limits.{inLimits-is, inLimits-none, inLimits-over}
-use Rattle.memory.specs.PlainReading.{plainReading}
 use Rattle.memory.proofs.Reading as reading
+use Rattle.tracker.specs.declared.Access.{Access}
 use Rattle.tracker.specs.Answer.{ok, no}
 use Rattle.rules.specs.State.{lengthsRight, begun}
 use Rattle.rules.specs.Whole.{limits}
-use Rattle.rules.specs.Calls.{Out, fresh, issue}
+use Rattle.rules.specs.Calls.{fresh, issueTests, issue}
 use Rattle.rules.proofs.Begun.{begun-whole}
 use Rattle.rules.proofs.Calls.{lengths-right, issue-accepted, issue-refused}
 use Rattle.archive.proofs.Facts.{head-check, blocks-0, blocks-7, blocks-8}
@@ -61,15 +60,20 @@ module _ (bytes memory : List ℕ) (p : length bytes ≡ 128) (q : length memory
   right : lengthsRight 1 2 bytes memory ≡ true
   right = lengths-right 1 2 bytes memory p (q ∙ sym length-1)
 
-  last-group : (write bottom : Bool) (v : ℕ) → issue (fresh 1 1 2 bytes memory .state) bytes memory 0 write bottom 15 v .said ≡ ok
+  -- the refusal of an issue to the one tracker
+  issue-no : (access : Access) → refusal (issueTests 1 1 0 access (begun 1 1 2 .trackers)) ≡ pick (ltb (access .group) 16) 0 6
   unfolding refusal groups
-  last-group write bottom v =
-      rw (begins 1 1 2 bytes memory one-leaf right, issue-accepted (begun 1 1 2) bytes memory (begun-whole 1 1 2 one-leaf) right 0 write bottom 15 v refl)
+  issue-no access = refl
 
-  past-group : (write bottom : Bool) (v : ℕ) → issue (fresh 1 1 2 bytes memory .state) bytes memory 0 write bottom 16 v .said ≡ no 6
-  unfolding refusal groups
-  past-group write bottom v =
-      rw (begins 1 1 2 bytes memory one-leaf right, issue-refused (begun 1 1 2) bytes memory (begun-whole 1 1 2 one-leaf) right 0 write bottom 16 v (omega arith))
+  last-group : (access : Access) → access .group ≡ 15 → issue (fresh 1 1 2 bytes memory .state) bytes memory 0 access .said ≡ ok
+  last-group access e =
+      let free : refusal (issueTests 1 1 0 access (begun 1 1 2 .trackers)) ≡ 0 = issue-no access ∙ rw e refl in
+      rw (begins 1 1 2 bytes memory one-leaf right, issue-accepted (begun 1 1 2) bytes memory (begun-whole 1 1 2 one-leaf) right 0 access free)
+
+  past-group : (access : Access) → access .group ≡ 16 → issue (fresh 1 1 2 bytes memory .state) bytes memory 0 access .said ≡ no 6
+  past-group access e =
+      let six : refusal (issueTests 1 1 0 access (begun 1 1 2 .trackers)) ≡ 6 = issue-no access ∙ rw e refl in
+      rw (begins 1 1 2 bytes memory one-leaf right, issue-refused (begun 1 1 2) bytes memory (begun-whole 1 1 2 one-leaf) right 0 access (omega arith), six)
 
 pub edges : Edges
 edges = record {
@@ -81,8 +85,8 @@ edges = record {
   l-is-t = λ n t bytes memory. refused-1 n t t bytes memory (limits-equal n t);
   l-one-more = λ t bytes memory a b p q. passes 1 t (t + 1) bytes memory (limits-is 1 t (omega arith) (omega arith) a b)
       (lengths-right 1 (t + 1) bytes memory p (q ∙ sym length-1));
-  group-15 = λ bytes memory write bottom v p q. last-group bytes memory p q write bottom v;
-  group-16 = λ bytes memory write bottom v p q. past-group bytes memory p q write bottom v;
+  group-15 = λ bytes memory access g p q. last-group bytes memory p q access g;
+  group-16 = λ bytes memory access g p q. past-group bytes memory p q access g;
   reading-16 = λ memory q. reading.refused-6 1 memory 16 (inLimits-is 1 (omega arith) (omega arith)) (q ∙ sym length-1) (omega arith);
   length-1 = length-1;
   length-512 = length-512;

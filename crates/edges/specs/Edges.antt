@@ -1,12 +1,12 @@
 -- 01 "Cases at the edges", as one table.
 use mathlib.Core.Path.{_≡_}
-use mathlib.Core.Bool.{Bool, true, false}
 use mathlib.Core.List.{List, [], _∷_}
 use Prim.Native.Nat.{ℕ, _+_, _*_, _≤_}
 use lib.ListN.{length}
 use Rattle.laws.specs.Bytes.{part}
 use Rattle.geometry.specs.TagMemory.{memoryLength}
 use Rattle.memory.specs.PlainReading.{plainReading}
+use Rattle.tracker.specs.declared.Access.{Access}
 use Rattle.tracker.specs.Answer.{ok, no}
 use Rattle.rules.specs.Calls.{fresh, issue}
 use Rattle.image.specs.Encode.{headOf, blocksFor}
@@ -21,10 +21,10 @@ pub record Edges : Type 0 where
   pub l-is-t : (n t : ℕ) (bytes memory : List ℕ) → fresh n t t bytes memory .said ≡ no 1
   pub l-one-more : (t : ℕ) (bytes memory : List ℕ) → 1 ≤ t → t ≤ 8 → length bytes ≡ 64 * (t + 1) → length memory ≡ 128 → fresh 1 t (t + 1) bytes memory .said ≡ ok
   -- "n = 1: group 15 passes, 16 gives 6", of an issue and of plain reading
-  pub group-15 : (bytes memory : List ℕ) (write bottom : Bool) (v : ℕ) → length bytes ≡ 128 → length memory ≡ 128
-      → issue (fresh 1 1 2 bytes memory .state) bytes memory 0 write bottom 15 v .said ≡ ok
-  pub group-16 : (bytes memory : List ℕ) (write bottom : Bool) (v : ℕ) → length bytes ≡ 128 → length memory ≡ 128
-      → issue (fresh 1 1 2 bytes memory .state) bytes memory 0 write bottom 16 v .said ≡ no 6
+  pub group-15 : (bytes memory : List ℕ) (access : Access) → access .group ≡ 15 → length bytes ≡ 128 → length memory ≡ 128
+      → issue (fresh 1 1 2 bytes memory .state) bytes memory 0 access .said ≡ ok
+  pub group-16 : (bytes memory : List ℕ) (access : Access) → access .group ≡ 16 → length bytes ≡ 128 → length memory ≡ 128
+      → issue (fresh 1 1 2 bytes memory .state) bytes memory 0 access .said ≡ no 6
   pub reading-16 : (memory : List ℕ) → length memory ≡ 128 → plainReading 1 memory 16 ≡ 4294967296 + 6
   -- "the three lengths for n = 1, 512, 513", and the largest
   pub length-1 : memoryLength 1 ≡ 128

@@ -13,6 +13,7 @@ use Rattle.laws.proofs.Choice.{true-or-false}
 use Rattle.laws.specs.Refusal.{refusal, unless}
 use Rattle.laws.proofs.Refusal.{refused-or-not, unless-0, unless-no}
 use Rattle.geometry.specs.TagMemory.{leafOf}
+use Rattle.tracker.specs.declared.Access.{Access}
 use Rattle.tracker.specs.declared.Tracker.{Tracker}
 use Rattle.tracker.specs.Tracker.{isIdle, issued, firstPhase}
 use Rattle.tracker.specs.Answer.{ok}
@@ -70,50 +71,50 @@ module _ {k : Kept} {row : Row} (a : Ok k row) where
   w = whole-facts (k .state) (a .is-whole)
 
   -- issue
-  module _ (x : ℕ) (write bottom : Bool) (g v : ℕ) where
-    flat-issue : flatDoes (flatWith k row) (found k (issues x write bottom g v)) (issues x write bottom g v) ≡ flatIssue (flatWith k row) x write bottom g v
+  module _ (x : ℕ) (access : Access) where
+    flat-issue : flatDoes (flatWith k row) (found k (issues x access)) (issues x access) ≡ flatIssue (flatWith k row) x access
     unfolding flatDoes
     flat-issue = refl
 
-    does-issue : does k (issues x write bottom g v) ≡ issue (k .state) (k .bytes) (k .memory) x write bottom g v
+    does-issue : does k (issues x access) ≡ issue (k .state) (k .bytes) (k .memory) x access
     unfolding does
     does-issue = refl
 
-    flat-refused : 0 < refusal (issueTests (k .state .n) (k .state .t) x g (trackerAt (k .state .trackers) x))
-        → flatIssue (flatWith k row) x write bottom g v ≡ refuse (refusal (issueTests (k .state .n) (k .state .t) x g (trackerAt (k .state .trackers) x))) (flatWith k row)
+    flat-refused : 0 < refusal (issueTests (k .state .n) (k .state .t) x access (k .state .trackers))
+        → flatIssue (flatWith k row) x access ≡ refuse (refusal (issueTests (k .state .n) (k .state .t) x access (k .state .trackers))) (flatWith k row)
     unfolding flatIssue
     flat-refused h = unless-no _ _ h
 
-    module _ (free : refusal (issueTests (k .state .n) (k .state .t) x g (trackerAt (k .state .trackers) x)) ≡ 0) where
-      flat-issued : flatIssue (flatWith k row) x write bottom g v ≡ (record { said = ok; flat = withRow (flatWith k row) row x (issued write bottom g v); effect = [] })
+    module _ (free : refusal (issueTests (k .state .n) (k .state .t) x access (k .state .trackers)) ≡ 0) where
+      flat-issued : flatIssue (flatWith k row) x access ≡ (record { said = ok; flat = withRow (flatWith k row) row x (issued access); effect = [] })
       unfolding flatIssue
       flat-issued = unless-0 _ _ free
 
-      first-fits : (b : Bool) → Fits row (issued write b g v) (firstPhase b)
+      first-fits : (b : Bool) → Fits row (issued access) (firstPhase b)
       first-fits true = tt
       first-fits false = tt
 
-      value-small : v < 4294967296 → (b : Bool) → pick b v 0 < 4294967296
+      value-small : access .value < 4294967296 → (b : Bool) → pick b (access .value) 0 < 4294967296
       value-small q true = q
       value-small q false = omega arith
 
-      issued-agrees : v < 4294967296 → Agrees (k .state .n) (k .state .l) (rowsOf k) (set (k .state .trackers) x (issued write bottom g v)) row
+      issued-agrees : access .value < 4294967296 → Agrees (k .state .n) (k .state .l) (rowsOf k) (set (k .state .trackers) x (issued access)) row
       issued-agrees q =
-          let h = issue-free (k .state) (k .bytes) (k .memory) (a .is-whole) (a .right) x write bottom g v free in
-          agrees-same (a .agrees) x (omega (arith, w .tracked .long, h .0)) (issued write bottom g v) (value-small q write) (a .agrees .good) (λ b bl. refl) (a .agrees .lined)
-          (λ j f. finish-busy (trackerAt (k .state .trackers) x .phase) (h .2) (f .is-there)) (first-fits bottom)
+          let h = issue-free (k .state) (k .bytes) (k .memory) (a .is-whole) (a .right) x access free in
+          agrees-same (a .agrees) x (omega (arith, w .tracked .long, h .0)) (issued access) (value-small q (access .write)) (a .agrees .good) (λ b bl. refl) (a .agrees .lined)
+          (λ j f. finish-busy (trackerAt (k .state .trackers) x .phase) (h .2) (f .is-there)) (first-fits (access .bottom))
 
-    follows-issue : v < 4294967296 → Follows k (issues x write bottom g v) row
-    follows-issue q = go (refused-or-not (refusal (issueTests (k .state .n) (k .state .t) x g (trackerAt (k .state .trackers) x))))
+    follows-issue : access .value < 4294967296 → Follows k (issues x access) row
+    follows-issue q = go (refused-or-not (refusal (issueTests (k .state .n) (k .state .t) x access (k .state .trackers))))
       where
-        go : (refusal (issueTests (k .state .n) (k .state .t) x g (trackerAt (k .state .trackers) x)) ≡ 0) ⊎ (0 < refusal (issueTests (k .state .n) (k .state .t) x g (trackerAt (k .state .trackers) x)))
-            → Follows k (issues x write bottom g v) row
-        go (inr h) = follows-no _ (does-issue ∙ issue-refused (k .state) (k .bytes) (k .memory) (a .is-whole) (a .right) x write bottom g v h) (flat-issue ∙ flat-refused h)
+        go : (refusal (issueTests (k .state .n) (k .state .t) x access (k .state .trackers)) ≡ 0) ⊎ (0 < refusal (issueTests (k .state .n) (k .state .t) x access (k .state .trackers)))
+            → Follows k (issues x access) row
+        go (inr h) = follows-no _ (does-issue ∙ issue-refused (k .state) (k .bytes) (k .memory) (a .is-whole) (a .right) x access h) (flat-issue ∙ flat-refused h)
         go (inl e) =
-            let is = issue-accepted (k .state) (k .bytes) (k .memory) (a .is-whole) (a .right) x write bottom g v e in
-            let s = issue-kept (k .state) (k .bytes) (k .memory) (a .is-whole) (a .right) x write bottom g v in
-            follows-by (accepted (withTracker (k .state) x (issued write bottom g v)) (k .bytes) (k .memory))
-            (record { said = ok; flat = withRow (flatWith k row) row x (issued write bottom g v); effect = [] }) row (does-issue ∙ is) (flat-issue ∙ flat-issued e) refl refl
+            let is = issue-accepted (k .state) (k .bytes) (k .memory) (a .is-whole) (a .right) x access e in
+            let s = issue-kept (k .state) (k .bytes) (k .memory) (a .is-whole) (a .right) x access in
+            follows-by (accepted (withTracker (k .state) x (issued access)) (k .bytes) (k .memory))
+            (record { said = ok; flat = withRow (flatWith k row) row x (issued access); effect = [] }) row (does-issue ∙ is) (flat-issue ∙ flat-issued e) refl refl
             (record { is-whole = rw is at (s .is-whole); right = a .right; agrees = issued-agrees e q }) refl
 
   -- step
@@ -127,18 +128,18 @@ module _ {k : Kept} {row : Row} (a : Ok k row) where
     does-step = refl
 
     module _ (f : Bool) where
-      flat-no : 0 < refusal (stepTests (k .state .t) x (trackerAt (k .state .trackers) x))
-          → flatStep (flatWith k row) f x ≡ refuse (refusal (stepTests (k .state .t) x (trackerAt (k .state .trackers) x))) (flatWith k row)
+      flat-no : 0 < refusal (stepTests (k .state .t) x (k .state .trackers))
+          → flatStep (flatWith k row) f x ≡ refuse (refusal (stepTests (k .state .t) x (k .state .trackers))) (flatWith k row)
       unfolding flatStep
       flat-no h = unless-no _ _ h
 
-      flat-turn : refusal (stepTests (k .state .t) x (trackerAt (k .state .trackers) x)) ≡ 0
+      flat-turn : refusal (stepTests (k .state .t) x (k .state .trackers)) ≡ 0
           → flatStep (flatWith k row) f x ≡ (let t = trackerAt (k .state .trackers) x in let c = courseOf (flatWith k row) f x in
           record { said = says row t c; flat = withRow (flatWith k row) (rowBy row t c) x (trackerBy t c); effect = effectBy x t c })
       unfolding flatStep
       flat-turn e = unless-0 _ _ e
 
-    module _ (free : refusal (stepTests (k .state .t) x (trackerAt (k .state .trackers) x)) ≡ 0) where
+    module _ (free : refusal (stepTests (k .state .t) x (k .state .trackers)) ≡ 0) where
       xl : x < k .state .t
       xl = step-free (k .state) (k .bytes) (k .memory) (a .is-whole) (a .right) x free .0
 
@@ -171,7 +172,7 @@ module _ {k : Kept} {row : Row} (a : Ok k row) where
     follows-step : Follows k (steps x) row
     follows-step = ⊎-elim (λ e. follows-turn e)
         (λ h. follows-no _ (does-step ∙ step-refused (k .state) (k .bytes) (k .memory) (a .is-whole) (a .right) x h) (flat-step ∙ flat-no _ h))
-        (refused-or-not (refusal (stepTests (k .state .t) x (trackerAt (k .state .trackers) x))))
+        (refused-or-not (refusal (stepTests (k .state .t) x (k .state .trackers))))
 
   -- drain
   flat-drain : flatDoes (flatWith k row) (found k drains) drains ≡ flatDrain (flatWith k row)
@@ -230,9 +231,9 @@ module _ (k : Kept) (b m : List ℕ) (c : Call) where
     flat-wrong e = rw e
 
 module _ (s : State) (b m : List ℕ) (w : whole s ≡ true) (e : lengthsRight (s .n) (s .l) b m ≡ false) where
-  issue-2 : (x : ℕ) (write bottom : Bool) (g v : ℕ) → does (record { state = s; bytes = b; memory = m }) (issues x write bottom g v) ≡ refused 2 s b m
+  issue-2 : (x : ℕ) (access : Access) → does (record { state = s; bytes = b; memory = m }) (issues x access) ≡ refused 2 s b m
   unfolding does issue issueNo refusal unless
-  issue-2 x write bottom g v = rw (w, e)
+  issue-2 x access = rw (w, e)
 
   step-2 : (x : ℕ) → does (record { state = s; bytes = b; memory = m }) (steps x) ≡ refused 2 s b m
   unfolding does step stepNo refusal unless
@@ -243,7 +244,7 @@ module _ (s : State) (b m : List ℕ) (w : whole s ≡ true) (e : lengthsRight (
   drain-2 = rw (w, e)
 
 wrong-lengths : (s : State) (c : Call) (b m : List ℕ) → whole s ≡ true → lengthsRight (s .n) (s .l) b m ≡ false → does (record { state = s; bytes = b; memory = m }) c ≡ refused 2 s b m
-wrong-lengths s (issues x write bottom g v) b m w e = issue-2 s b m w e x write bottom g v
+wrong-lengths s (issues x access) b m w e = issue-2 s b m w e x access
 wrong-lengths s (steps x) b m w e = step-2 s b m w e x
 wrong-lengths s drains b m w e = drain-2 s b m w e
 wrong-lengths s (lends b' m' c) b m w e = ⊎-elim
@@ -252,7 +253,7 @@ wrong-lengths s (lends b' m' c) b m w e = ⊎-elim
     ∙ ap (λ (o : Out). elsewhere o (record { state = s; bytes = b; memory = m })) (wrong-lengths s c b' m' w r)) (true-or-false (lengthsRight (s .n) (s .l) b' m'))
 
 pub follows : (k : Kept) (row : Row) → Ok k row → (c : Call) → Value32 c → Follows k c row
-follows k row a (issues x write bottom g v) q = follows-issue a x write bottom g v q
+follows k row a (issues x access) q = follows-issue a x access q
 follows k row a (steps x) q = follows-step a x
 follows k row a drains q = follows-drain a
 follows k row a (lends b m c) q = go (follows k row a c q) (true-or-false (lengthsRight (k .state .n) (k .state .l) b m))

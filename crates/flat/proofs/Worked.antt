@@ -13,6 +13,7 @@ use Rattle.geometry.specs.TagMemory.{inLimits}
 use Rattle.block.specs.Block.{bitAt, putBit, allZero, blockOr0}
 use Rattle.memory.specs.PlainReading.{leafBit, plainGroup}
 use Rattle.memory.specs.True.{trueAt, isTrue, clearedMap}
+use Rattle.tracker.specs.Tracker.{readOf, writeOf}
 use Rattle.tracker.specs.Answer.{Said, ok, wait, moved, read, done}
 use Rattle.line.specs.Word.{used, blockOf, changed, holder, held, has, word, heldBy, cleaned}
 use Rattle.line.specs.Find.{lineOf, lowestFree, looseFrom, victim, after}
@@ -32,11 +33,11 @@ begun = kept (fresh 4 2 3 (replicate 192 7) (replicate 320 9))
 -- A read sees a write that is not yet done; the next write waits for it; a third leaf finds no free line, and the first, changed, is written back;
 -- it is brought in again and read; a leaf is emptied; a drain.
 abbrev calls : List Call
-calls = issues 0 true false 17 10 ∷ issues 1 false true 17 0 ∷ steps 0 ∷ steps 0 ∷ steps 1
-    ∷ issues 1 true false 33 11 ∷ steps 1 ∷ steps 0 ∷ steps 1 ∷ steps 1
-    ∷ issues 0 true true 49 12 ∷ steps 0 ∷ steps 0 ∷ steps 1 ∷ steps 0 ∷ steps 0 ∷ steps 0
-    ∷ issues 1 false false 17 0 ∷ steps 1 ∷ steps 1
-    ∷ issues 0 true false 33 0 ∷ steps 0 ∷ steps 0 ∷ steps 0
+calls = issues 0 (writeOf false 17 10) ∷ issues 1 (readOf true 17) ∷ steps 0 ∷ steps 0 ∷ steps 1
+    ∷ issues 1 (writeOf false 33 11) ∷ steps 1 ∷ steps 0 ∷ steps 1 ∷ steps 1
+    ∷ issues 0 (writeOf true 49 12) ∷ steps 0 ∷ steps 0 ∷ steps 1 ∷ steps 0 ∷ steps 0 ∷ steps 0
+    ∷ issues 1 (readOf false 17) ∷ steps 1 ∷ steps 1
+    ∷ issues 0 (writeOf false 33 0) ∷ steps 0 ∷ steps 0 ∷ steps 0
     ∷ drains ∷ []
 
 abbrev said : List Said

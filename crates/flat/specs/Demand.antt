@@ -12,7 +12,7 @@ use Rattle.flat.specs.Flat.{Flat, Given}
 
 -- Whether the leaf of the access that is stepped is in a line: all that an answer needs and the row does not say.
 unfoldable pub found : Kept → Call → Bool
-found k (issues x write bottom g v) = false
+found k (issues x access) = false
 found k (steps x) = ltb (lineOf (k .state .lines) (k .state .l) (leafOf (trackerAt (k .state .trackers) x .group))) (k .state .l)
 found k drains = false
 found k (lends b m c) = found k c
@@ -28,7 +28,7 @@ flatOf k = record { n = k .state .n; t = k .state .t; l = k .state .l; row = pla
 
 -- a call's value is an unsigned 32-bit number
 abbrev pub Value32 : Call → Type 0
-Value32 (issues x write bottom g v) = v < 4294967296
+Value32 (issues x access) = access .value < 4294967296
 Value32 (steps x) = Unit {0}
 Value32 drains = Unit {0}
 Value32 (lends b m c) = Value32 c

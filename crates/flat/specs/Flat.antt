@@ -12,6 +12,7 @@ use Rattle.laws.specs.Refusal.{refusal, unless}
 use Rattle.geometry.specs.TagMemory.{leafOf}
 use Rattle.tracker.specs.declared.Phase.{Phase}
 use Rattle.tracker.specs.declared.Phase.the-variants.{Idle, Probe, Map, Leaf, Set, Clear}
+use Rattle.tracker.specs.declared.Access.{Access}
 use Rattle.tracker.specs.declared.Tracker.{Tracker}
 use Rattle.tracker.specs.Tracker.{idle, issued, isIdle, goesTo, counted}
 use Rattle.tracker.specs.Answer.{Said, ok, wait, moved, read, done, same}
@@ -144,17 +145,17 @@ abbrev pub refuse : ℕ → Flat → Reply
 refuse c f = record { said = Said.no c; flat = f; effect = [] }
 
 -- "tracker number T or more" 5, "group 16n or more" 6, "issue to a busy tracker" 7
-unfoldable pub flatIssue : Flat → ℕ → (write bottom : Bool) → ℕ → ℕ → Reply
-flatIssue f x write bottom g v =
-    unless (refusal (issueTests (f .n) (f .t) x g (trackerAt (f .trackers) x)))
-    (record { said = ok; flat = withRow f (f .row) x (issued write bottom g v); effect = [] }) (λ c. refuse c f)
+unfoldable pub flatIssue : Flat → ℕ → Access → Reply
+flatIssue f x access =
+    unless (refusal (issueTests (f .n) (f .t) x access (f .trackers)))
+    (record { said = ok; flat = withRow f (f .row) x (issued access); effect = [] }) (λ c. refuse c f)
 
 -- "tracker number T or more" 5, "step of an idle tracker" 8
 unfoldable pub flatStep : Flat → Bool → ℕ → Reply
 flatStep f found x =
     let t = trackerAt (f .trackers) x in
     let c = courseOf f found x in
-    unless (refusal (stepTests (f .t) x t))
+    unless (refusal (stepTests (f .t) x (f .trackers)))
     (record { said = says (f .row) t c; flat = withRow f (rowBy (f .row) t c) x (trackerBy t c); effect = effectBy x t c }) (λ r. refuse r f)
 
 -- every access is at rest
@@ -167,7 +168,7 @@ flatDrain f = unless (refusal (drainTests (allRest f))) (record { said = ok; fla
 
 -- one call; "a lent length differs from the rule" 2
 unfoldable pub flatDoes : Flat → Bool → Call → Reply
-flatDoes f found (issues x write bottom g v) = flatIssue f x write bottom g v
+flatDoes f found (issues x access) = flatIssue f x access
 flatDoes f found (steps x) = flatStep f found x
 flatDoes f found drains = flatDrain f
 flatDoes f found (lends b m c) = pick (lengthsRight (f .n) (f .l) b m) (flatDoes f found c) (refuse 2 f)

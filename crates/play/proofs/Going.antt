@@ -1,6 +1,6 @@
 -- The loop over a chunk's lines: what holds at its first line, and after each line more.
 use mathlib.Core.Path.{_≡_, refl, sym, ap, subst, _∙_}
-use mathlib.Core.Bool.{Bool, true, false}
+use mathlib.Core.Bool.{true, false}
 use mathlib.Core.List.{List}
 use Prim.Native.Nat.{ℕ, _+_, _-_, _≤_, _<_}
 use native.Mathlib.Omega.{arith}
@@ -8,18 +8,16 @@ use lib.Dec.{ltb}
 use lib.ListN.{length, set}
 use Rattle.laws.specs.Choice.{both}
 use Rattle.laws.specs.Bytes.{part, splice, fits}
-use Rattle.laws.specs.Scan.{all}
 use Rattle.laws.proofs.Choice.{both-left, both-right}
 use Rattle.tracker.specs.declared.Tracker.{Tracker}
 use Rattle.tracker.specs.declared.Answer.{Answer}
-use Rattle.tracker.specs.Tracker.{isIdle}
 use Rattle.tracker.specs.Answer.{Said, says, no}
-use Rattle.script.specs.Script.{Asks, drains, asksFor}
+use Rattle.script.specs.Script.{Asks, asksFor}
 use Rattle.text.specs.Text.{lineText, lineIn, most}
 use Rattle.rules.specs.State.{State, trackerAt, lengthsRight}
 use Rattle.rules.specs.Whole.{whole}
 use Rattle.rules.specs.Step.{Turned}
-use Rattle.rules.specs.Calls.{Out, stepped, allIdle}
+use Rattle.rules.specs.Calls.{Out, stepped}
 use Rattle.rules.specs.Run.{Kept}
 use Rattle.rules.proofs.Calls.{Sound}
 use Rattle.rules.proofs.Whole.{whole-facts, t-least, t-most}
@@ -97,27 +95,25 @@ done-at rule input p e a ee ae = rw (ae, ee) refl
 
 -- one more line, as the code does it
 pub going-line : (input : List ℕ) {begun : Played} (n t l hand : ℕ) (lines : List ℕ) (trackers : List Tracker) (bytes memory : List ℕ) (number taken : ℕ) (output : List ℕ) (written : ℕ)
-    (e x : ℕ) (a : Asks) (rest : Bool) {answer : Answer} {hand' : ℕ} {u : Tracker} {lines' bytes' memory' output' : List ℕ} {written' : ℕ}
+    (e x : ℕ) (a : Asks) {answer : Answer} {hand' : ℕ} {u : Tracker} {lines' bytes' memory' output' : List ℕ} {written' : ℕ}
     → Going input begun (under n t l hand lines trackers bytes memory number taken output written)
     → goesOn input (under n t l hand lines trackers bytes memory number taken output written) ≡ true
     → e ≡ lineEnd input taken
     → a ≡ asksFor (part input taken (e - taken))
     → x ≡ named t a
-    → (a ≡ drains → rest ≡ all (λ y. isIdle (trackerAt trackers y)) t)
-    → Steps (lineTurn n t l hand a (trackerAt trackers x) rest (rows lines bytes memory)) answer hand' u lines' bytes' memory'
+    → Steps (lineTurn n t l hand a trackers (trackerAt trackers x) (rows lines bytes memory)) answer hand' u lines' bytes' memory'
     → output' ≡ splice output written (lineIn output written (number + 1) (says answer))
     → written' ≡ written + length (lineIn output written (number + 1) (says answer))
     → Going input begun (under n t l hand' lines' (set trackers x u) bytes' memory' (number + 1) (e + 1) output' written')
-unfolding allIdle
-going-line input {begun} n t l hand lines trackers bytes memory number taken output written e x a rest g h ee ae xe re st o v =
+going-line input {begun} n t l hand lines trackers bytes memory number taken output written e x a g h ee ae xe st o v =
     let s : State = record { n = n; t = t; l = l; hand = hand; lines = lines; trackers = trackers } in
     let p : Played = under n t l hand lines trackers bytes memory number taken output written in
     let told-is = told s number taken output written e x bytes memory (goesOn-fits input p h) st o v in
-    let turned : follows (record { state = s; bytes = bytes; memory = memory }) a ≡ stepped s (named t a) (lineTurn n t l hand a (trackerAt trackers (named t a)) rest (rows lines bytes memory)) =
-    follows-turn s bytes memory (g .is-whole) (g .right) a rest re in
+    let turned : follows (record { state = s; bytes = bytes; memory = memory }) a ≡ stepped s (named t a) (lineTurn n t l hand a trackers (trackerAt trackers (named t a)) (rows lines bytes memory)) =
+    follows-turn s bytes memory (g .is-whole) (g .right) a in
     subst (λ (q : Played). Going input begun q)
     (sym (told-is
-    ∙ ap (λ (y : ℕ). after p e (stepped s y (lineTurn n t l hand a (trackerAt trackers y) rest (rows lines bytes memory)))) xe
+    ∙ ap (λ (y : ℕ). after p e (stepped s y (lineTurn n t l hand a trackers (trackerAt trackers y) (rows lines bytes memory)))) xe
     ∙ ap (λ (d : Out). after p e d) (sym turned)
     ∙ done-at follows input p e a ee ae))
     (going-more input g h)

@@ -1,5 +1,5 @@
 -- A law for each way out of each function, from what the code has tested.
-use mathlib.Core.Path.{_≡_, refl}
+use mathlib.Core.Path.{_≡_, refl, sym, _∙_}
 use mathlib.Core.Bool.{Bool, true, false}
 use mathlib.Core.List.{List}
 use Prim.Native.Nat.{ℕ, _+_, _-_, _*_, _≤_, _<_}
@@ -7,25 +7,26 @@ use native.Mathlib.Omega.{arith}
 use lib.Dec.{eqb, ltb}
 use lib.ListN.{length, getD}
 use borrow.Author.Tests.{ltb-true, lt-ltb, le-ltb, le-leb, lt-leb, eq-eqb, ne-eqb}
-use Rattle.geometry.specs.TagMemory.{groups}
 use Rattle.laws.specs.Refusal.{refusal, unless}
+use Rattle.laws.proofs.Refusal.{unless-0, unless-no}
 use Rattle.laws.specs.Choice.{pick, both}
 use Rattle.laws.specs.Bytes.{fits}
-use Rattle.laws.specs.Scan.{first}
+use Rattle.laws.specs.Scan.{all, first}
 use Rattle.laws.proofs.Choice.{both-left, both-right, both-false-left, both-false-right}
 use Rattle.laws.proofs.Scan.{first-zero, first-hit, first-miss}
+use Rattle.tracker.specs.declared.Access.{Access}
 use Rattle.tracker.specs.declared.Tracker.{Tracker}
 use Rattle.tracker.specs.declared.Answer.{Answer}
-use Rattle.tracker.specs.Tracker.{isIdle, issued}
+use Rattle.tracker.specs.Tracker.{isIdle, readOf, writeOf, issued}
 use Rattle.tracker.specs.Answer.{ok, no}
 use Rattle.script.specs.declared.Command.{Command}
 use Rattle.script.specs.declared.Command.the-variants.{New, Read, Write, Step, Drain, Bad}
-use Rattle.script.specs.Script.{news, reads, writes, steps, drains, bad, asks}
+use Rattle.script.specs.Script.{news, asks}
 use Rattle.geometry.specs.TagMemory.{inLimits, memoryLength}
-use Rattle.rules.specs.State.{State, Rows, lengthsRight, zeroState}
+use Rattle.rules.specs.State.{State, Rows, trackerAt, lengthsRight, zeroState}
 use Rattle.rules.specs.Whole.{limits, whole}
 use Rattle.rules.specs.Step.{Turned, refuses, turnOf}
-use Rattle.rules.specs.Calls.{Out, refused, fresh}
+use Rattle.rules.specs.Calls.{Out, refused, fresh, issueTests, stepTests, drainTests}
 use Rattle.rules.specs.Run.{Kept}
 use Rattle.lines.specs.Lines.{rows, drainedRows}
 use Rattle.turned.specs.Steps.{Steps}
@@ -36,72 +37,57 @@ use Rattle.play.specs.Play.{begins, follows, lineEnd, starts, played, pl
 pub by-rule : {want rule : Turned} {a : Answer} {h : ℕ} {t : Tracker} {ls bs m : List ℕ} → want ≡ rule → Steps rule a h t ls bs m → Steps want a h t ls bs m
 by-rule e s = rw e s
 
--- issue
-module _ (n t hand x : ℕ) (write bottom : Bool) (g v : ℕ) (u : Tracker) (r : Rows) where
-  pub issue-past : t ≤ x → issueTurn n t hand x write bottom g v u r ≡ refuses 5 u hand r
-  unfolding issueTurn refusal unless
-  issue-past q = rw (le-ltb _ _ q)
+-- refused with c, or not
+module _ (n t hand x : ℕ) (a : Access) (us : List Tracker) (u : Tracker) (r : Rows) (c : ℕ) (e : c ≡ refusal (issueTests n t x a us)) where
+  pub issue-no : 0 < c → issueTurn n t hand x a us u r ≡ refuses c u hand r
+  unfolding issueTurn
+  issue-no h = rw (← e) (unless-no _ _ h)
 
-  pub issue-group : x < t → 16 * n ≤ g → issueTurn n t hand x write bottom g v u r ≡ refuses 6 u hand r
-  unfolding issueTurn refusal unless groups
-  issue-group q p = rw (lt-ltb _ _ q, le-ltb _ _ p)
+  pub issue-ok : c ≡ 0 → issueTurn n t hand x a us u r ≡ (record { said = ok; hand = hand; tracker = issued a; rows = r })
+  unfolding issueTurn
+  issue-ok z = unless-0 _ _ (sym e ∙ z)
 
-  pub issue-busy : x < t → g < 16 * n → isIdle u ≡ false → issueTurn n t hand x write bottom g v u r ≡ refuses 7 u hand r
-  unfolding issueTurn refusal unless groups
-  issue-busy q p e = rw (lt-ltb _ _ q, lt-ltb _ _ p, e)
+module _ (n t l hand x : ℕ) (us : List Tracker) (u : Tracker) (r : Rows) (c : ℕ) (e : c ≡ refusal (stepTests t x us)) where
+  pub step-no : 0 < c → stepTurn n t l hand x us u r ≡ refuses c u hand r
+  unfolding stepTurn
+  step-no h = rw (← e) (unless-no _ _ h)
 
-  pub issue-accepted : x < t → g < 16 * n → isIdle u ≡ true → issueTurn n t hand x write bottom g v u r ≡ (record { said = ok; hand = hand; tracker = issued write bottom g v; rows = r })
-  unfolding issueTurn refusal unless groups
-  issue-accepted q p e = rw (lt-ltb _ _ q, lt-ltb _ _ p, e)
+  pub step-ok : c ≡ 0 → stepTurn n t l hand x us u r ≡ turnOf n l hand x u r
+  unfolding stepTurn
+  step-ok z = unless-0 _ _ (sym e ∙ z)
 
--- step
-module _ (n t l hand x : ℕ) (u : Tracker) (r : Rows) where
-  pub step-past : t ≤ x → stepTurn n t l hand x u r ≡ refuses 5 u hand r
-  unfolding stepTurn refusal unless
-  step-past q = rw (le-ltb _ _ q)
+module _ (t l hand : ℕ) (us : List Tracker) (u : Tracker) (r : Rows) (c : ℕ) (e : c ≡ refusal (drainTests (all (λ y. isIdle (trackerAt us y)) t))) where
+  pub drain-no : 0 < c → drainTurn t l hand us u r ≡ refuses c u hand r
+  unfolding drainTurn
+  drain-no h = rw (← e) (unless-no _ _ h)
 
-  pub step-idle : x < t → isIdle u ≡ true → stepTurn n t l hand x u r ≡ refuses 8 u hand r
-  unfolding stepTurn refusal unless
-  step-idle q e = rw (lt-ltb _ _ q, e)
-
-  pub step-goes : x < t → isIdle u ≡ false → stepTurn n t l hand x u r ≡ turnOf n l hand x u r
-  unfolding stepTurn refusal unless
-  step-goes q e = rw (lt-ltb _ _ q, e)
-
--- drain
-module _ (l hand : ℕ) (u : Tracker) (resting : Bool) (r : Rows) where
-  pub drain-busy : resting ≡ false → drainTurn l hand u resting r ≡ refuses 7 u hand r
-  unfolding drainTurn refusal unless
-  drain-busy e = rw e
-
-  pub drain-accepted : resting ≡ true
-      → drainTurn l hand u resting r ≡ (record { said = ok; hand = hand; tracker = u; rows = rows (drainedRows l r .lines) (r .bytes) (drainedRows l r .memory) })
-  unfolding drainTurn refusal unless
-  drain-accepted e = rw e
+  pub drain-ok : c ≡ 0 → drainTurn t l hand us u r ≡ (record { said = ok; hand = hand; tracker = u; rows = rows (drainedRows l r .lines) (r .bytes) (drainedRows l r .memory) })
+  unfolding drainTurn
+  drain-ok z = unless-0 _ _ (sym e ∙ z)
 
 -- a line by its command
-module _ (n t l hand : ℕ) {c : Command} (u : Tracker) (resting : Bool) (r : Rows) where
-  pub line-new : {a b d : ℕ} → c ≡ New a b d → lineTurn n t l hand (asks c) u resting r ≡ refuses 12 u hand r
+module _ (n t l hand : ℕ) {c : Command} (us : List Tracker) (u : Tracker) (r : Rows) where
+  pub line-new : {a b d : ℕ} → c ≡ New a b d → lineTurn n t l hand (asks c) us u r ≡ refuses 12 u hand r
   unfolding lineTurn
   line-new e = rw e
 
-  pub line-read : {x g : ℕ} {bottom : Bool} → c ≡ Read x g bottom → lineTurn n t l hand (asks c) u resting r ≡ issueTurn n t hand x false bottom g 0 u r
+  pub line-read : {x g : ℕ} {bottom : Bool} {a : Access} → c ≡ Read x g bottom → a ≡ readOf bottom g → lineTurn n t l hand (asks c) us u r ≡ issueTurn n t hand x a us u r
   unfolding lineTurn
-  line-read e = rw e
+  line-read e q = rw (e, q) refl
 
-  pub line-write : {x g v : ℕ} {bottom : Bool} → c ≡ Write x g v bottom → lineTurn n t l hand (asks c) u resting r ≡ issueTurn n t hand x true bottom g v u r
+  pub line-write : {x g v : ℕ} {bottom : Bool} {a : Access} → c ≡ Write x g v bottom → a ≡ writeOf bottom g v → lineTurn n t l hand (asks c) us u r ≡ issueTurn n t hand x a us u r
   unfolding lineTurn
-  line-write e = rw e
+  line-write e q = rw (e, q) refl
 
-  pub line-step : {x : ℕ} → c ≡ Step x → lineTurn n t l hand (asks c) u resting r ≡ stepTurn n t l hand x u r
+  pub line-step : {x : ℕ} → c ≡ Step x → lineTurn n t l hand (asks c) us u r ≡ stepTurn n t l hand x us u r
   unfolding lineTurn
   line-step e = rw e
 
-  pub line-drain : c ≡ Drain → lineTurn n t l hand (asks c) u resting r ≡ drainTurn l hand u resting r
+  pub line-drain : c ≡ Drain → lineTurn n t l hand (asks c) us u r ≡ drainTurn t l hand us u r
   unfolding lineTurn
   line-drain e = rw e
 
-  pub line-bad : c ≡ Bad → lineTurn n t l hand (asks c) u resting r ≡ refuses 12 u hand r
+  pub line-bad : c ≡ Bad → lineTurn n t l hand (asks c) us u r ≡ refuses 12 u hand r
   unfolding lineTurn
   line-bad e = rw e
 
@@ -136,25 +122,6 @@ module _ (t : ℕ) {c : Command} where
   pub named-bad : c ≡ Bad → named t (asks c) ≡ 0
   unfolding named
   named-bad e = rw e
-
--- a command that asks for no drain
-pub asks-other : {c d : Command} → c ≡ d → (asks d ≡ drains → ⊥) → asks c ≡ drains → ⊥
-asks-other e f q = f (rw e at q)
-
-pub not-news : {a b d : ℕ} → news a b d ≡ drains → ⊥
-not-news q = let z : _≡_ {A = ℕ} 0 1 = cc in omega arith
-
-pub not-reads : {x g : ℕ} {b : Bool} → reads x g b ≡ drains → ⊥
-not-reads q = let z : _≡_ {A = ℕ} 0 1 = cc in omega arith
-
-pub not-writes : {x g v : ℕ} {b : Bool} → writes x g v b ≡ drains → ⊥
-not-writes q = let z : _≡_ {A = ℕ} 0 1 = cc in omega arith
-
-pub not-steps : {x : ℕ} → steps x ≡ drains → ⊥
-not-steps q = let z : _≡_ {A = ℕ} 0 1 = cc in omega arith
-
-pub not-bad : bad ≡ drains → ⊥
-not-bad q = let z : _≡_ {A = ℕ} 0 1 = cc in omega arith
 
 -- the line's end
 abbrev pub newlineAt : List ℕ → (at : ℕ) → ℕ → Bool

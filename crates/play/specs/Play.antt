@@ -1,12 +1,13 @@
 -- 01 "The replay program": what a script's lines do and print, by the rules of issue, step and drain.
 use mathlib.Core.List.{List}
-use mathlib.Core.Bool.{Bool, true, false}
+use mathlib.Core.Bool.{Bool}
 use Prim.Native.Nat.{ℕ, zero, suc, _+_, _-_}
 use lib.Dec.{eqb, ltb, leb}
 use lib.ListN.{length, getD}
 use Rattle.laws.specs.Choice.{pick, both}
 use Rattle.laws.specs.Bytes.{part, splice, fits}
 use Rattle.laws.specs.Scan.{first}
+use Rattle.tracker.specs.Tracker.{readOf, writeOf}
 use Rattle.script.specs.Script.{Asks, news, reads, writes, steps, drains, bad, asksFor}
 use Rattle.text.specs.Text.{lineText, most}
 use Rattle.rules.specs.State.{lengthsRight, zeroState}
@@ -27,8 +28,8 @@ begins bad bytes memory = refused 12 zeroState bytes memory
 -- "Then `r T G O`, `w T G V O`, `s T`, `d`: issue a read or write, step, drain. .. Other lines, a later `n` .. get 12."
 abbrev pub follows : Kept → Asks → Out
 follows k (news n l t) = refused 12 (k .state) (k .bytes) (k .memory)
-follows k (reads x g b) = does k (run.issues x false b g 0)
-follows k (writes x g v b) = does k (run.issues x true b g v)
+follows k (reads x g b) = does k (run.issues x (readOf b g))
+follows k (writes x g v b) = does k (run.issues x (writeOf b g v))
 follows k (steps x) = does k (run.steps x)
 follows k drains = does k run.drains
 follows k bad = refused 12 (k .state) (k .bytes) (k .memory)

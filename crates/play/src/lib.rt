@@ -5,6 +5,7 @@ use cache::Out;
 use cache::State;
 use geometry::Geometry;
 use script::Command;
+use tracker::Access;
 use tracker::Answer;
 use tracker::Tracker;
 use turned::Turned;
@@ -16,11 +17,9 @@ ghost use lib.Dec.{ltb};
 ghost use lib.ListN.{length};
 ghost use Rattle.laws.specs.Choice.{pick, both};
 ghost use Rattle.laws.specs.Bytes.{fits};
-ghost use Rattle.laws.specs.Scan.{all};
-ghost use Rattle.tracker.specs.Tracker.{isIdle};
 ghost use Rattle.text.specs.Text.{most};
-ghost use Rattle.script.specs.Script.{asks, news, drains};
-ghost use Rattle.rules.specs.State.{trackerAt, lengthsRight, zeroState};
+ghost use Rattle.script.specs.Script.{asks, news};
+ghost use Rattle.rules.specs.State.{lengthsRight, zeroState};
 ghost use Rattle.rules.specs.Whole.{whole};
 ghost use Rattle.rules.specs.Calls.{refused};
 ghost use Rattle.rules.specs.Run.{Kept};
@@ -49,32 +48,25 @@ pub struct Refused {
     pub written: usize,
 }
 
-// Issue to tracker x, which is u: 5, 6, 7.
+// Issue to tracker x: 5, 6, 7.
 fn issue(
     n: u32,
     t: u32,
     hand: usize,
     x: u32,
-    write: bool,
-    bottom: bool,
-    g: u32,
-    v: u32,
+    access: Access,
+    trackers: [Tracker; 8],
     u: Tracker,
 ) -> Turned
-    ensures { λ r. ⌜ ((ls bs m : List ℕ) → Steps (issueTurn n t hand x write bottom g v u (rows ls bs m)) (r .answer) (r .hand) (r .tracker) ls bs m) ⌝ }
+    ensures { λ r. ⌜ ((ls bs m : List ℕ) → Steps (issueTurn n t hand x access trackers u (rows ls bs m)) (r .answer) (r .hand) (r .tracker) ls bs m) ⌝ }
 {
-    if t <= x {
-        return turned::refuses(5, hand, u);
-    }
-    if 16 * (n as u64) <= g as u64 {
-        return turned::refuses(6, hand, u);
-    }
-    if !u.is_idle() {
-        return turned::refuses(7, hand, u);
+    let c = whole::issue_refusal(n, t, x as u64, access, trackers);
+    if 0 < c {
+        return turned::refuses(c, hand, u);
     }
     Turned {
         hand,
-        tracker: Tracker::begin(write, bottom, g, v),
+        tracker: Tracker::begin(access),
         answer: Answer::Accepted,
     }
 }
@@ -86,36 +78,37 @@ fn one_step(
     l: usize,
     hand: usize,
     x: u32,
+    trackers: [Tracker; 8],
     u: Tracker,
     lines: &mut [u32],
     bytes: &mut [u8],
     memory: &mut [u8],
 ) -> Turned
-    ensures { λ r. ⌜ Steps (stepTurn n t l hand x u (rows (now (lines .entry)) (now (bytes .entry)) (now (memory .entry)))) (r .answer) (r .hand) (r .tracker) (now (lines .exit)) (now (bytes .exit)) (now (memory .exit)) ⌝ }
+    ensures { λ r. ⌜ Steps (stepTurn n t l hand x trackers u (rows (now (lines .entry)) (now (bytes .entry)) (now (memory .entry)))) (r .answer) (r .hand) (r .tracker) (now (lines .exit)) (now (bytes .exit)) (now (memory .exit)) ⌝ }
 {
-    if t <= x {
-        return turned::refuses(5, hand, u);
-    }
-    if u.is_idle() {
-        return turned::refuses(8, hand, u);
+    let c = whole::step_refusal(t, x as u64, trackers);
+    if 0 < c {
+        return turned::refuses(c, hand, u);
     }
     step::turn(n, l, hand, x, u, lines, bytes, memory)
 }
 
 // Drain: 7.
 fn drain(
+    t: u32,
     l: usize,
     hand: usize,
+    trackers: [Tracker; 8],
     u: Tracker,
-    resting: bool,
     lines: &mut [u32],
     bytes: &[u8],
     memory: &mut [u8],
 ) -> Turned
-    ensures { λ r. ⌜ Steps (drainTurn l hand u resting (rows (now (lines .entry)) (now (bytes .entry)) (now (memory .entry)))) (r .answer) (r .hand) (r .tracker) (now (lines .exit)) (now (bytes .entry)) (now (memory .exit)) ⌝ }
+    ensures { λ r. ⌜ Steps (drainTurn t l hand trackers u (rows (now (lines .entry)) (now (bytes .entry)) (now (memory .entry)))) (r .answer) (r .hand) (r .tracker) (now (lines .exit)) (now (bytes .entry)) (now (memory .exit)) ⌝ }
 {
-    if !resting {
-        return turned::refuses(7, hand, u);
+    let c = whole::drain_refusal(t, trackers);
+    if 0 < c {
+        return turned::refuses(c, hand, u);
     }
     lines::drain(l, lines, bytes, memory);
     Turned {
@@ -132,20 +125,30 @@ fn follow(
     l: usize,
     hand: usize,
     c: Command,
+    trackers: [Tracker; 8],
     u: Tracker,
-    resting: bool,
     lines: &mut [u32],
     bytes: &mut [u8],
     memory: &mut [u8],
 ) -> Turned
-    ensures { λ r. ⌜ Steps (lineTurn n t l hand (asks c) u resting (rows (now (lines .entry)) (now (bytes .entry)) (now (memory .entry)))) (r .answer) (r .hand) (r .tracker) (now (lines .exit)) (now (bytes .exit)) (now (memory .exit)) ⌝ }
+    ensures { λ r. ⌜ Steps (lineTurn n t l hand (asks c) trackers u (rows (now (lines .entry)) (now (bytes .entry)) (now (memory .entry)))) (r .answer) (r .hand) (r .tracker) (now (lines .exit)) (now (bytes .exit)) (now (memory .exit)) ⌝ }
 {
     match c {
         Command::New(a, b, d) => turned::refuses(12, hand, u),
-        Command::Read(x, g, bottom) => issue(n, t, hand, x, false, bottom, g, 0, u),
-        Command::Write(x, g, v, bottom) => issue(n, t, hand, x, true, bottom, g, v, u),
-        Command::Step(x) => one_step(n, t, l, hand, x, u, lines, bytes, memory),
-        Command::Drain => drain(l, hand, u, resting, lines, bytes, memory),
+        Command::Read(x, g, bottom) => issue(
+            n,
+            t,
+            hand,
+            x,
+            Access::read_of(bottom, g),
+            trackers,
+            u,
+        ),
+        Command::Write(x, g, v, bottom) => {
+            issue(n, t, hand, x, Access::write_of(bottom, g, v), trackers, u)
+        }
+        Command::Step(x) => one_step(n, t, l, hand, x, trackers, u, lines, bytes, memory),
+        Command::Drain => drain(t, l, hand, trackers, u, lines, bytes, memory),
         Command::Bad => turned::refuses(12, hand, u),
     }
 }
@@ -168,20 +171,6 @@ fn named(t: u32, c: Command) -> usize
         Command::Step(x) => below(t, x),
         Command::Drain => 0,
         Command::Bad => 0,
-    }
-}
-
-// For a drain: every tracker is idle.
-fn resting(t: u32, c: Command, trackers: [Tracker; 8]) -> bool
-    ensures { λ r. ⌜ (asks c ≡ drains → r ≡ all (λ x. isIdle (trackerAt trackers x)) t) ⌝ }
-{
-    match c {
-        Command::New(a, b, d) => true,
-        Command::Read(x, g, bottom) => true,
-        Command::Write(x, g, v, bottom) => true,
-        Command::Step(x) => true,
-        Command::Drain => whole::all_idle(t, trackers),
-        Command::Bad => true,
     }
 }
 
@@ -260,8 +249,7 @@ fn play_lines(
         k += 1;
         let x = named(t, c);
         let u = trackers[x];
-        let rests = resting(t, c, trackers);
-        let r = follow(n, t, l, hand, c, u, rests, &mut lines, bytes, memory);
+        let r = follow(n, t, l, hand, c, trackers, u, &mut lines, bytes, memory);
         hand = r.hand;
         let v = r.tracker;
         trackers[x] = v;

@@ -22,6 +22,7 @@ use Rattle.laws.proofs.Refusal.{refusal-0, refusal-hold, refusal-past, refused-
 use Rattle.geometry.specs.TagMemory.{inLimits, memoryLength, blocks}
 use Rattle.tracker.specs.declared.Phase.{Phase}
 use Rattle.tracker.specs.declared.Phase.the-variants.{Idle, Probe, Map, Leaf, Set, Clear}
+use Rattle.tracker.specs.declared.Access.{Access}
 use Rattle.tracker.specs.declared.Tracker.{Tracker}
 use Rattle.tracker.specs.Tracker.{idle, isIdle, isIdleAt, holdsAt, issued, firstPhase}
 use Rattle.tracker.specs.Answer.{Said, ok}
@@ -75,11 +76,11 @@ module _ (s : State) (bytes memory : List ℕ) (w : whole s ≡ true) (len : len
   rows-fit = both-true _ _ (le-leb _ _ (f .lined .long)) (eq-eqb _ _ (bytes-right (s .n) (s .l) bytes memory len))
 
   -- past 4 and 2 a call's refusal is that of its own tests
-  issueNo-is : (x g : ℕ) → issueNo s bytes memory x g ≡ refusal (issueTests (s .n) (s .t) x g (trackerAt (s .trackers) x))
+  issueNo-is : (x : ℕ) (a : Access) → issueNo s bytes memory x a ≡ refusal (issueTests (s .n) (s .t) x a (s .trackers))
   unfolding issueNo
-  issueNo-is x g = refusal-past (stateTests s bytes memory) _ (w, (len, tt))
+  issueNo-is x a = refusal-past (stateTests s bytes memory) _ (w, (len, tt))
 
-  stepNo-is : (x : ℕ) → stepNo s bytes memory x ≡ refusal (stepTests (s .t) x (trackerAt (s .trackers) x))
+  stepNo-is : (x : ℕ) → stepNo s bytes memory x ≡ refusal (stepTests (s .t) x (s .trackers))
   unfolding stepNo
   stepNo-is x = refusal-past (stateTests s bytes memory) _ (w, (len, tt))
 
@@ -107,7 +108,7 @@ module _ (s : State) (bytes memory : List ℕ) (w : whole s ≡ true) (len : len
       -- "the public step is the core"
       pub step-is : step s bytes memory x ≡ stepped s x (turnOf (s .n) (s .l) (s .hand) x (trackerAt (s .trackers) x) rows)
       unfolding step
-      step-is = unless-0 _ _ (stepNo-is x ∙ refusal-0 (stepTests (s .t) x (trackerAt (s .trackers) x)) (lt-ltb _ _ xl, (ap not busy, tt)))
+      step-is = unless-0 _ _ (stepNo-is x ∙ refusal-0 (stepTests (s .t) x (s .trackers)) (lt-ltb _ _ xl, (ap not busy, tt)))
 
       pub step-sound : Sound (s .n) (s .t) (s .l) (step s bytes memory x)
       step-sound = rw step-is (record {
@@ -121,54 +122,54 @@ module _ (s : State) (bytes memory : List ℕ) (w : whole s ≡ true) (len : len
       pub step-not-refused : isNo (step s bytes memory x .said) ≡ false
       step-not-refused = rw step-is (turn-keeps .says)
 
-  pub step-refused : (x : ℕ) → 0 < refusal (stepTests (s .t) x (trackerAt (s .trackers) x)) → step s bytes memory x ≡ refused (refusal (stepTests (s .t) x (trackerAt (s .trackers) x))) s bytes memory
+  pub step-refused : (x : ℕ) → 0 < refusal (stepTests (s .t) x (s .trackers)) → step s bytes memory x ≡ refused (refusal (stepTests (s .t) x (s .trackers))) s bytes memory
   unfolding step
   step-refused x h = rw (stepNo-is x) (unless-no _ _ h)
 
   -- where a step is not refused
-  pub step-free : (x : ℕ) → refusal (stepTests (s .t) x (trackerAt (s .trackers) x)) ≡ 0 → (x < s .t) × (isIdle (trackerAt (s .trackers) x) ≡ false)
-  step-free x e = let h = refusal-hold (stepTests (s .t) x (trackerAt (s .trackers) x)) refl e in (ltb-true _ _ (h .0), not-true _ (h .1 .0))
+  pub step-free : (x : ℕ) → refusal (stepTests (s .t) x (s .trackers)) ≡ 0 → (x < s .t) × (isIdle (trackerAt (s .trackers) x) ≡ false)
+  step-free x e = let h = refusal-hold (stepTests (s .t) x (s .trackers)) refl e in (ltb-true _ _ (h .0), not-true _ (h .1 .0))
 
   pub step-kept : (x : ℕ) → Sound (s .n) (s .t) (s .l) (step s bytes memory x)
   step-kept x = ⊎-elim (λ e. let h = step-free x e in step-sound x (h .0) (h .1)) (λ h. rw (step-refused x h) (refused-sound _))
-      (refused-or-not (refusal (stepTests (s .t) x (trackerAt (s .trackers) x))))
+      (refused-or-not (refusal (stepTests (s .t) x (s .trackers))))
 
   -- issue
-  module _ (x : ℕ) (write bottom : Bool) (g v : ℕ) where
-    pub issue-refused : 0 < refusal (issueTests (s .n) (s .t) x g (trackerAt (s .trackers) x))
-        → issue s bytes memory x write bottom g v ≡ refused (refusal (issueTests (s .n) (s .t) x g (trackerAt (s .trackers) x))) s bytes memory
+  module _ (x : ℕ) (a : Access) where
+    pub issue-refused : 0 < refusal (issueTests (s .n) (s .t) x a (s .trackers))
+        → issue s bytes memory x a ≡ refused (refusal (issueTests (s .n) (s .t) x a (s .trackers))) s bytes memory
     unfolding issue
-    issue-refused h = rw (issueNo-is x g) (unless-no _ _ h)
+    issue-refused h = rw (issueNo-is x a) (unless-no _ _ h)
 
-    module _ (free : refusal (issueTests (s .n) (s .t) x g (trackerAt (s .trackers) x)) ≡ 0) where
-      pub issue-accepted : issue s bytes memory x write bottom g v ≡ accepted (withTracker s x (issued write bottom g v)) bytes memory
+    module _ (free : refusal (issueTests (s .n) (s .t) x a (s .trackers)) ≡ 0) where
+      pub issue-accepted : issue s bytes memory x a ≡ accepted (withTracker s x (issued a)) bytes memory
       unfolding issue
-      issue-accepted = unless-0 _ _ (issueNo-is x g ∙ free)
+      issue-accepted = unless-0 _ _ (issueNo-is x a ∙ free)
 
       -- where an issue is not refused
-      pub issue-free : (x < s .t) × (g < groups (s .n)) × (isIdle (trackerAt (s .trackers) x) ≡ true)
-      issue-free = let h = refusal-hold (issueTests (s .n) (s .t) x g (trackerAt (s .trackers) x)) refl free in (ltb-true _ _ (h .0), ltb-true _ _ (h .1 .0), h .1 .1 .0)
+      pub issue-free : (x < s .t) × (a .group < groups (s .n)) × (isIdle (trackerAt (s .trackers) x) ≡ true)
+      issue-free = let h = refusal-hold (issueTests (s .n) (s .t) x a (s .trackers)) refl free in (ltb-true _ _ (h .0), ltb-true _ _ (h .1 .0), h .1 .1 .0)
 
       first-free : (b : Bool) → holdsAt (firstPhase b) ≡ false
       first-free true = refl
       first-free false = refl
 
-      first-ok : (b : Bool) → phaseWhole write b (firstPhase b) ≡ true
+      first-ok : (b : Bool) → phaseWhole (a .write) b (firstPhase b) ≡ true
       first-ok true = refl
       first-ok false = refl
 
       xlong : x < length (s .trackers)
       xlong = omega (arith, f .tracked .long, issue-free .0)
 
-      issue-lined : Lined (blocks (s .n)) (s .l) (s .t) (heldOf (s .n) (set (s .trackers) x (issued write bottom g v))) (s .lines)
+      issue-lined : Lined (blocks (s .n)) (s .l) (s .t) (heldOf (s .n) (set (s .trackers) x (issued a))) (s .lines)
       issue-lined = same-holds (f .lined) (λ y. by y (ℕ-discrete y x))
         where
-          by : (y : ℕ) → Dec (y ≡ x) → heldOf (s .n) (set (s .trackers) x (issued write bottom g v)) y ≡ heldOf (s .n) (s .trackers) y
-          by y (yes q) = rw q (heldOf-no (s .n) _ x (rw (tracker-same (s .trackers) x (issued write bottom g v) xlong) (first-free bottom))
+          by : (y : ℕ) → Dec (y ≡ x) → heldOf (s .n) (set (s .trackers) x (issued a)) y ≡ heldOf (s .n) (s .trackers) y
+          by y (yes q) = rw q (heldOf-no (s .n) _ x (rw (tracker-same (s .trackers) x (issued a) xlong) (first-free (a .bottom)))
               ∙ sym (heldOf-no (s .n) (s .trackers) x (idle-loose (trackerAt (s .trackers) x .phase) (issue-free .2))))
-          by y (no q) = heldOf-other (s .n) (s .trackers) x y (issued write bottom g v) q
+          by y (no q) = heldOf-other (s .n) (s .trackers) x y (issued a) q
 
-      issue-sound : Sound (s .n) (s .t) (s .l) (accepted (withTracker s x (issued write bottom g v)) bytes memory)
+      issue-sound : Sound (s .n) (s .t) (s .l) (accepted (withTracker s x (issued a)) bytes memory)
       issue-sound = record {
         n-is = refl;
         t-is = refl;
@@ -177,14 +178,14 @@ module _ (s : State) (bytes memory : List ℕ) (w : whole s ≡ true) (len : len
           limits-ok = f .limits-ok;
           hand-lt = f .hand-lt;
           lined = issue-lined;
-          tracked = tracked-set (s .n) (s .t) (s .trackers) x (issued write bottom g v) (f .tracked) (issue-free .0) (λ _. issue-free .1) (first-ok bottom);
+          tracked = tracked-set (s .n) (s .t) (s .trackers) x (issued a) (f .tracked) (issue-free .0) (λ _. issue-free .1) (first-ok (a .bottom));
         });
         right = len;
       }
 
-    pub issue-kept : Sound (s .n) (s .t) (s .l) (issue s bytes memory x write bottom g v)
+    pub issue-kept : Sound (s .n) (s .t) (s .l) (issue s bytes memory x a)
     issue-kept = ⊎-elim (λ e. rw (issue-accepted e) (issue-sound e)) (λ h. rw (issue-refused h) (refused-sound _))
-        (refused-or-not (refusal (issueTests (s .n) (s .t) x g (trackerAt (s .trackers) x))))
+        (refused-or-not (refusal (issueTests (s .n) (s .t) x a (s .trackers))))
 
   few : s .t < s .l
   few = omega (arith, l-least (s .n) (s .t) (s .l) (f .limits-ok))

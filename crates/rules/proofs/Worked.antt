@@ -14,6 +14,7 @@ use Rattle.geometry.specs.TagMemory.{inLimits}
 use Rattle.block.specs.Block.{bitAt, putBit, allZero, blockOr0}
 use Rattle.memory.specs.PlainReading.{leafBit, plainGroup}
 use Rattle.memory.specs.True.{trueAt, isTrue, clearedMap}
+use Rattle.tracker.specs.Tracker.{readOf, writeOf}
 use Rattle.tracker.specs.Answer.{Said, ok, wait, moved, read, done, same, no as says-no}
 use Rattle.line.specs.Word.{used, blockOf, changed, holder, held, has, word, heldBy, cleaned}
 use Rattle.line.specs.Find.{lineOf, lowestFree, looseFrom, victim, after}
@@ -33,47 +34,47 @@ four-leaves = kept (fresh 4 2 3 (replicate 192 7) (replicate 320 9))
 
 -- a top-down write of v by tracker 0, to its end by setting the bit; and a top-down read
 abbrev creates : ℕ → ℕ → List Call
-creates g v = issues 0 true false g v ∷ steps 0 ∷ steps 0 ∷ steps 0 ∷ []
+creates g v = issues 0 (writeOf false g v) ∷ steps 0 ∷ steps 0 ∷ steps 0 ∷ []
 
 abbrev reads : ℕ → List Call
-reads g = issues 0 false false g 0 ∷ steps 0 ∷ steps 0 ∷ []
+reads g = issues 0 (readOf false g) ∷ steps 0 ∷ steps 0 ∷ []
 
 pub record Worked : Type 0 where
   -- Case R
   pub case-r : answers two-leaves
-      (issues 0 true false 17 10 ∷ issues 1 true false 17 0 ∷ steps 0 ∷ steps 1 ∷ steps 0 ∷ steps 0 ∷ steps 1 ∷ steps 1 ∷ steps 1
-      ∷ issues 0 false true 17 0 ∷ steps 0 ∷ steps 0 ∷ drains ∷ [])
+      (issues 0 (writeOf false 17 10) ∷ issues 1 (writeOf false 17 0) ∷ steps 0 ∷ steps 1 ∷ steps 0 ∷ steps 0 ∷ steps 1 ∷ steps 1 ∷ steps 1
+      ∷ issues 0 (readOf true 17) ∷ steps 0 ∷ steps 0 ∷ drains ∷ [])
       ≡ ok ∷ ok ∷ moved ∷ wait ∷ moved ∷ done 3 ∷ moved ∷ moved ∷ done 4 ∷ ok ∷ moved ∷ read 0 2 ∷ ok ∷ []
   -- a leaf created under bit 0 has zeros beside the group, not the stale bytes; a bottom-up read and write meet it in its line
   pub neighbour : answers two-leaves
-      (creates 17 10 ++ (reads 18 ++ (issues 1 false true 17 0 ∷ steps 1 ∷ issues 1 true true 17 10 ∷ steps 1 ∷ [])))
+      (creates 17 10 ++ (reads 18 ++ (issues 1 (readOf true 17) ∷ steps 1 ∷ issues 1 (writeOf true 17 10) ∷ steps 1 ∷ [])))
       ≡ ok ∷ moved ∷ moved ∷ done 3 ∷ ok ∷ moved ∷ read 0 2 ∷ ok ∷ read 10 1 ∷ ok ∷ same 1 ∷ []
   -- between Leaf and Finish the map block stays held
   pub held-to-finish : answers two-leaves
-      (issues 0 true false 17 10 ∷ issues 1 false false 17 0 ∷ steps 0 ∷ steps 0 ∷ steps 1 ∷ steps 0 ∷ steps 1 ∷ steps 1 ∷ [])
+      (issues 0 (writeOf false 17 10) ∷ issues 1 (readOf false 17) ∷ steps 0 ∷ steps 0 ∷ steps 1 ∷ steps 0 ∷ steps 1 ∷ steps 1 ∷ [])
       ≡ ok ∷ ok ∷ moved ∷ moved ∷ wait ∷ done 3 ∷ moved ∷ read 10 3 ∷ []
   -- a leaf that a write empties is dropped before its bit is cleared; created again, it has no stale bytes
   pub emptied : answers two-leaves
-      (creates 17 10 ++ (issues 0 true false 17 0 ∷ steps 0 ∷ steps 0 ∷ issues 1 false false 17 0 ∷ steps 1 ∷ steps 0 ∷ steps 1
+      (creates 17 10 ++ (issues 0 (writeOf false 17 0) ∷ steps 0 ∷ steps 0 ∷ issues 1 (readOf false 17) ∷ steps 1 ∷ steps 0 ∷ steps 1
       ∷ (creates 18 5 ++ reads 17)))
       ≡ ok ∷ moved ∷ moved ∷ done 3 ∷ ok ∷ moved ∷ moved ∷ ok ∷ wait ∷ done 3 ∷ read 0 2
       ∷ ok ∷ moved ∷ moved ∷ done 3 ∷ ok ∷ moved ∷ read 0 2 ∷ []
   -- "same" at Map under bit 0 and at Leaf under bit 1
-  pub same-twice : answers two-leaves (issues 0 true false 17 0 ∷ steps 0 ∷ (creates 17 10 ++ (issues 0 true false 17 10 ∷ steps 0 ∷ steps 0 ∷ [])))
+  pub same-twice : answers two-leaves (issues 0 (writeOf false 17 0) ∷ steps 0 ∷ (creates 17 10 ++ (issues 0 (writeOf false 17 10) ∷ steps 0 ∷ steps 0 ∷ [])))
       ≡ ok ∷ same 1 ∷ ok ∷ moved ∷ moved ∷ done 3 ∷ ok ∷ moved ∷ same 2 ∷ []
   -- lines run out: the hand passes the held map line, and the changed leaf after it is written back and read again
   pub eviction : answers four-leaves (creates 17 10 ++ (creates 33 11 ++ (creates 49 12 ++ (reads 17 ++ (reads 33 ++ reads 49)))))
       ≡ ok ∷ moved ∷ moved ∷ done 3 ∷ ok ∷ moved ∷ moved ∷ done 3 ∷ ok ∷ moved ∷ moved ∷ done 3
       ∷ ok ∷ moved ∷ read 10 2 ∷ ok ∷ moved ∷ read 11 2 ∷ ok ∷ moved ∷ read 12 2 ∷ []
   -- a group changed in a leaf that stays: ends at Leaf
-  pub changes : answers two-leaves (creates 17 10 ++ (issues 0 true false 18 7 ∷ steps 0 ∷ steps 0 ∷ reads 17))
+  pub changes : answers two-leaves (creates 17 10 ++ (issues 0 (writeOf false 18 7) ∷ steps 0 ∷ steps 0 ∷ reads 17))
       ≡ ok ∷ moved ∷ moved ∷ done 3 ∷ ok ∷ moved ∷ done 2 ∷ ok ∷ moved ∷ read 10 2 ∷ []
   -- after a drain the memory reads as the row, is true, and shows
   pub drained-reads : plainGroup 2 (ended two-leaves (creates 17 10 ++ (drains ∷ [])) .memory) 17 ≡ 10
   pub drained-true : isTrue 2 (ended two-leaves (creates 17 10 ++ (drains ∷ [])) .memory) ≡ true
   -- refusals: 2, 5, 6, 7, 8
   pub refusals : answers two-leaves
-      (lends [] [] (steps 0) ∷ steps 2 ∷ issues 0 false false 32 0 ∷ issues 0 false false 31 0 ∷ issues 0 false false 31 0 ∷ drains ∷ steps 1 ∷ [])
+      (lends [] [] (steps 0) ∷ steps 2 ∷ issues 0 (readOf false 32) ∷ issues 0 (readOf false 31) ∷ issues 0 (readOf false 31) ∷ drains ∷ steps 1 ∷ [])
       ≡ says-no 2 ∷ says-no 5 ∷ says-no 6 ∷ ok ∷ says-no 7 ∷ says-no 7 ∷ says-no 8 ∷ []
 
 pub worked : Worked

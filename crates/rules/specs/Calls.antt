@@ -13,6 +13,7 @@ use Rattle.geometry.specs.TagMemory.{mapBlockOf, mapByteOf, mapBitOf, blockPlac
 use Rattle.block.specs.Block.{bitAt}
 use Rattle.memory.specs.PlainReading.{leafBit}
 use Rattle.memory.specs.True.{isTrue, clearedMap, blockAt}
+use Rattle.tracker.specs.declared.Access.{Access}
 use Rattle.tracker.specs.declared.Tracker.{Tracker}
 use Rattle.tracker.specs.Tracker.{issued, isIdle}
 use Rattle.tracker.specs.Answer.{Said, ok, no}
@@ -58,16 +59,16 @@ stateTests s bytes memory = (whole s, 4) ∷ (lengthsRight (s .n) (s .l) bytes m
 abbrev pub withTracker : State → ℕ → Tracker → State
 withTracker s x t = record { n = s .n; t = s .t; l = s .l; hand = s .hand; lines = s .lines; trackers = set (s .trackers) x t }
 
--- "issue 4, 2, 5, 6, 7": x's tracker is u
-abbrev pub issueTests : (n t x g : ℕ) → Tracker → Tests
-issueTests n t x g u = (ltb x t, 5) ∷ (ltb g (groups n), 6) ∷ (isIdle u, 7) ∷ []
+-- "issue 4, 2, 5, 6, 7": of access a to tracker x, among the trackers us
+abbrev pub issueTests : (n t x : ℕ) → Access → List Tracker → Tests
+issueTests n t x a us = (ltb x t, 5) ∷ (ltb (a .group) (groups n), 6) ∷ (isIdle (trackerAt us x), 7) ∷ []
 
-unfoldable pub issueNo : State → List ℕ → List ℕ → ℕ → ℕ → ℕ
-issueNo s bytes memory x g = refusal (stateTests s bytes memory ++ issueTests (s .n) (s .t) x g (trackerAt (s .trackers) x))
+unfoldable pub issueNo : State → List ℕ → List ℕ → ℕ → Access → ℕ
+issueNo s bytes memory x a = refusal (stateTests s bytes memory ++ issueTests (s .n) (s .t) x a (s .trackers))
 
-unfoldable pub issue : State → List ℕ → List ℕ → ℕ → (write bottom : Bool) → ℕ → ℕ → Out
-issue s bytes memory x write bottom g v =
-    unless (issueNo s bytes memory x g) (accepted (withTracker s x (issued write bottom g v)) bytes memory) (λ c. refused c s bytes memory)
+unfoldable pub issue : State → List ℕ → List ℕ → ℕ → Access → Out
+issue s bytes memory x a =
+    unless (issueNo s bytes memory x a) (accepted (withTracker s x (issued a)) bytes memory) (λ c. refused c s bytes memory)
 
 -- the state, the line bytes and the memory after a step of tracker x
 abbrev pub stepped : State → ℕ → Turned → Out
@@ -78,12 +79,12 @@ stepped s x r = record {
   memory = r .rows .memory;
 }
 
--- "step 4, 2, 5, 8": x's tracker is u
-abbrev pub stepTests : (t x : ℕ) → Tracker → Tests
-stepTests t x u = (ltb x t, 5) ∷ (not (isIdle u), 8) ∷ []
+-- "step 4, 2, 5, 8": of tracker x, among the trackers us
+abbrev pub stepTests : (t x : ℕ) → List Tracker → Tests
+stepTests t x us = (ltb x t, 5) ∷ (not (isIdle (trackerAt us x)), 8) ∷ []
 
 unfoldable pub stepNo : State → List ℕ → List ℕ → ℕ → ℕ
-stepNo s bytes memory x = refusal (stateTests s bytes memory ++ stepTests (s .t) x (trackerAt (s .trackers) x))
+stepNo s bytes memory x = refusal (stateTests s bytes memory ++ stepTests (s .t) x (s .trackers))
 
 unfoldable pub step : State → List ℕ → List ℕ → ℕ → Out
 step s bytes memory x =

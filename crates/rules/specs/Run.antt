@@ -1,15 +1,15 @@
 -- A run: any list of calls, each handed the state and the bytes that the one before handed back.
 use mathlib.Core.List.{List, [], _∷_}
-use mathlib.Core.Bool.{Bool}
 use Prim.Native.Nat.{ℕ}
 use Rattle.laws.specs.Choice.{pick}
+use Rattle.tracker.specs.declared.Access.{Access}
 use Rattle.tracker.specs.Answer.{Said}
 use Rattle.rules.specs.State.{State, lengthsRight}
 use Rattle.rules.specs.Calls.{Out, issue, step, drain}
 
 -- a call with what its caller names. `lends` is the call with other lent bytes, of other lengths; where their lengths are right they are the run's own.
 pub data Call : Type 0 where
-  issues : (x : ℕ) (write bottom : Bool) (g v : ℕ) → Call
+  issues : (x : ℕ) (a : Access) → Call
   steps : (x : ℕ) → Call
   drains : Call
   lends : (bytes memory : List ℕ) → Call → Call
@@ -28,7 +28,7 @@ abbrev pub elsewhere : Out → Kept → Out
 elsewhere o k = record { said = o .said; state = o .state; bytes = k .bytes; memory = k .memory }
 
 unfoldable pub does : Kept → Call → Out
-does k (issues x write bottom g v) = issue (k .state) (k .bytes) (k .memory) x write bottom g v
+does k (issues x a) = issue (k .state) (k .bytes) (k .memory) x a
 does k (steps x) = step (k .state) (k .bytes) (k .memory) x
 does k drains = drain (k .state) (k .bytes) (k .memory)
 does k (lends b m c) =

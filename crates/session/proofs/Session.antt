@@ -17,7 +17,7 @@ use Rattle.session.specs.Session.{Met, issued, stepped, drained, Session
 -- a promise is the rules' own call
 pub met-does : {s : State} {b m b' m' : List ℕ} {c : Call} {r : Out} → Met s b m c r b' m' → did r b' m' ≡ does (keptOf s b m) c
 unfolding does
-met-does (issued r x write bottom g v q e) = e
+met-does (issued r x access q e) = e
 met-does (stepped r b' m' x e) = e
 met-does (drained r m' e) = e
 

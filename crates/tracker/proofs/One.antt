@@ -3,10 +3,11 @@ use mathlib.Core.Path.{_≡_, refl, sym, _∙_}
 use mathlib.Core.Bool.{Bool}
 use Prim.Native.Nat.{ℕ}
 use Rattle.tracker.specs.declared.Phase.{Phase}
+use Rattle.tracker.specs.declared.Access.{Access}
 use Rattle.tracker.specs.declared.Tracker.{Tracker}
 use Rattle.tracker.specs.declared.Answer.{Answer}
 use Rattle.tracker.specs.declared.Answer.the-variants.{Accepted, Wait, Moved, Read, Done, Same, No}
-use Rattle.tracker.specs.Tracker.{idle, isIdle, issued, tick, goesTo, counted}
+use Rattle.tracker.specs.Tracker.{idle, isIdle, readOf, writeOf, issued, tick, goesTo, counted}
 use Rattle.tracker.specs.Answer.{Said, ok, wait, moved, read, done, same, no, says}
 
 -- the answer that says it
@@ -38,8 +39,14 @@ one-more-one k p q = p ∙ sym q
 pub rest-one : {r s : Tracker} → r ≡ idle → s ≡ idle → r ≡ s
 rest-one p q = p ∙ sym q
 
-pub begin-one : (write bottom : Bool) (g v : ℕ) {r s : Tracker} → r ≡ issued write bottom g v → s ≡ issued write bottom g v → r ≡ s
-begin-one write bottom g v p q = p ∙ sym q
+pub read-of-one : (bottom : Bool) (g : ℕ) {r s : Access} → r ≡ readOf bottom g → s ≡ readOf bottom g → r ≡ s
+read-of-one bottom g p q = p ∙ sym q
+
+pub write-of-one : (bottom : Bool) (g v : ℕ) {r s : Access} → r ≡ writeOf bottom g v → s ≡ writeOf bottom g v → r ≡ s
+write-of-one bottom g v p q = p ∙ sym q
+
+pub begin-one : (a : Access) {r s : Tracker} → r ≡ issued a → s ≡ issued a → r ≡ s
+begin-one a p q = p ∙ sym q
 
 pub go-to-one : (t : Tracker) (phase : Phase) {r s : Tracker} → r ≡ goesTo t phase → s ≡ goesTo t phase → r ≡ s
 go-to-one t phase p q = p ∙ sym q

@@ -4,6 +4,7 @@ use Prim.Native.Nat.{ℕ, suc, min}
 use Rattle.laws.specs.Choice.{pick}
 use Rattle.tracker.specs.declared.Phase.{Phase}
 use Rattle.tracker.specs.declared.Phase.the-variants.{Idle, Probe, Map, Leaf, Set, Clear}
+use Rattle.tracker.specs.declared.Access.{Access}
 use Rattle.tracker.specs.declared.Tracker.{Tracker}
 
 -- "every tracker idle, and their other fields zero"
@@ -45,8 +46,16 @@ abbrev pub firstPhase : Bool → Phase
 firstPhase bottom = pick bottom Probe Map
 
 -- "An access is a read or a write of value v, of group g, top-down or bottom-up."
-abbrev pub issued : (write bottom : Bool) (g v : ℕ) → Tracker
-issued write bottom g v = record { phase = firstPhase bottom; write = write; bottom = bottom; group = g; value = pick write v 0; turns = 0 }
+abbrev pub readOf : (bottom : Bool) (g : ℕ) → Access
+readOf bottom g = record { write = false; bottom = bottom; group = g; value = 0 }
+
+abbrev pub writeOf : (bottom : Bool) (g v : ℕ) → Access
+writeOf bottom g v = record { write = true; bottom = bottom; group = g; value = v }
+
+-- a tracker whose access was just issued
+abbrev pub issued : Access → Tracker
+issued a =
+    record { phase = firstPhase (a .bottom); write = a .write; bottom = a .bottom; group = a .group; value = pick (a .write) (a .value) 0; turns = 0 }
 
 -- "its turns: steps given since the issue, waits included; it stays at 65,535 once there"
 abbrev pub tick : ℕ → ℕ

@@ -1,7 +1,7 @@
 // 01 "One step of a tracker": a tracker's phase and fields, and what a call answers.
 // Structs and enums by value; no public function has a `requires`.
 ghost use mathlib.Core.Path.{_≡_};
-ghost use Rattle.tracker.specs.Tracker.{idle, firstPhase, issued, goesTo, counted, tick, isIdle};
+ghost use Rattle.tracker.specs.Tracker.{idle, firstPhase, readOf, writeOf, issued, goesTo, counted, tick, isIdle};
 ghost use Rattle.laws.specs.Choice.{pick};
 
 // Where a tracker stands. Finish is two: Set and Clear, by what it does to the bit.
@@ -12,6 +12,14 @@ pub enum Phase {
     Leaf,
     Set,
     Clear,
+}
+
+// A read, or a write of a value, of a group, top-down or bottom-up. The value of a read means nothing.
+pub struct Access {
+    pub write: bool,
+    pub bottom: bool,
+    pub group: u32,
+    pub value: u32,
 }
 
 // One access under way; `bottom` stays after Probe. An idle tracker that ended has every field zero.
@@ -56,6 +64,32 @@ fn written(write: bool, v: u32) -> u32
     if write { v } else { 0 }
 }
 
+impl Access {
+    // A read of group g.
+    pub fn read_of(bottom: bool, g: u32) -> Access
+        ensures { λ r. ⌜ r ≡ readOf bottom g ⌝ }
+    {
+        Access {
+            write: false,
+            bottom,
+            group: g,
+            value: 0,
+        }
+    }
+
+    // A write of v to group g.
+    pub fn write_of(bottom: bool, g: u32, v: u32) -> Access
+        ensures { λ r. ⌜ r ≡ writeOf bottom g v ⌝ }
+    {
+        Access {
+            write: true,
+            bottom,
+            group: g,
+            value: v,
+        }
+    }
+}
+
 impl Tracker {
     // A tracker with no access: every field zero.
     pub fn rest() -> Tracker
@@ -71,16 +105,16 @@ impl Tracker {
         }
     }
 
-    // A read, or a write of v, of group g, at its first phase.
-    pub fn begin(write: bool, bottom: bool, g: u32, v: u32) -> Tracker
-        ensures { λ r. ⌜ r ≡ issued write bottom g v ⌝ }
+    // An access at its first phase.
+    pub fn begin(access: Access) -> Tracker
+        ensures { λ r. ⌜ r ≡ issued access ⌝ }
     {
         Tracker {
-            phase: first_phase(bottom),
-            write,
-            bottom,
-            group: g,
-            value: written(write, v),
+            phase: first_phase(access.bottom),
+            write: access.write,
+            bottom: access.bottom,
+            group: access.group,
+            value: written(access.write, access.value),
             turns: 0,
         }
     }

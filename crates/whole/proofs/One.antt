@@ -3,23 +3,35 @@ use mathlib.Core.Path.{_≡_, sym, _∙_}
 use mathlib.Core.List.{List}
 use mathlib.Core.Bool.{Bool}
 use Prim.Native.Nat.{ℕ}
+use Rattle.laws.specs.Refusal.{refusal}
 use Rattle.laws.specs.Scan.{all}
+use Rattle.tracker.specs.declared.Access.{Access}
 use Rattle.tracker.specs.declared.Tracker.{Tracker}
 use Rattle.tracker.specs.Tracker.{isIdle}
 use Rattle.rules.specs.State.{trackerAt}
 use Rattle.rules.specs.Whole.{limits, whole}
+use Rattle.rules.specs.Calls.{issueTests, stepTests, drainTests, showTests}
 use Rattle.whole.specs.Parts.{stateOf}
 
-one : {d : Bool} (a b : Bool) → a ≡ d → b ≡ d → a ≡ b
+one : {A : Type 0} {d : A} (a b : A) → a ≡ d → b ≡ d → a ≡ b
 one a b p q = p ∙ sym q
 
 module _ (n t l : ℕ) where
   pub one-limits : (a b : Bool) → a ≡ limits n t l → b ≡ limits n t l → a ≡ b
   one-limits = one
 
-  module _ (trackers : List Tracker) where
-    pub one-whole : (hand : ℕ) (lines : List ℕ) (a b : Bool) → a ≡ whole (stateOf n t l hand lines trackers) → b ≡ whole (stateOf n t l hand lines trackers) → a ≡ b
+  module _ (us : List Tracker) where
+    pub one-whole : (hand : ℕ) (lines : List ℕ) (a b : Bool) → a ≡ whole (stateOf n t l hand lines us) → b ≡ whole (stateOf n t l hand lines us) → a ≡ b
     one-whole hand lines = one
 
-    pub one-all-idle : (a b : Bool) → a ≡ all (λ x. isIdle (trackerAt trackers x)) t → b ≡ all (λ x. isIdle (trackerAt trackers x)) t → a ≡ b
-    one-all-idle = one
+    pub one-issue-refusal : (x : ℕ) (access : Access) (a b : ℕ) → a ≡ refusal (issueTests n t x access us) → b ≡ refusal (issueTests n t x access us) → a ≡ b
+    one-issue-refusal x access = one
+
+    pub one-step-refusal : (x a b : ℕ) → a ≡ refusal (stepTests t x us) → b ≡ refusal (stepTests t x us) → a ≡ b
+    one-step-refusal x = one
+
+    pub one-drain-refusal : (a b : ℕ) → a ≡ refusal (drainTests (all (λ x. isIdle (trackerAt us x)) t)) → b ≡ refusal (drainTests (all (λ x. isIdle (trackerAt us x)) t)) → a ≡ b
+    one-drain-refusal = one
+
+    pub one-show-refusal : (k a b : ℕ) → a ≡ refusal (showTests n k (all (λ x. isIdle (trackerAt us x)) t)) → b ≡ refusal (showTests n k (all (λ x. isIdle (trackerAt us x)) t)) → a ≡ b
+    one-show-refusal k = one

@@ -8,13 +8,12 @@ use native.Mathlib.Omega.{arith}
 use lib.Dec.{eqb, ltb, leb}
 use lib.ListN.{length, getD, List·getD-eq-default}
 use borrow.Author.Tests.{lt-ltb, le-ltb, le-leb, lt-leb}
-use Rattle.geometry.specs.TagMemory.{groups}
+use Rattle.geometry.specs.TagMemory.{groups, blocks}
 use Rattle.laws.specs.Choice.{both, implies, no}
 use Rattle.laws.specs.Scan.{all}
 use Rattle.laws.proofs.Choice.{both-false-left, both-false-right, implied}
 use Rattle.laws.proofs.Splice.{lt-or-ge}
 use Rattle.laws.proofs.Scan.{all-is, all-at, all-more, all-fails}
-use Rattle.geometry.specs.TagMemory.{blocks}
 use Rattle.tracker.specs.declared.Phase.{Phase}
 use Rattle.tracker.specs.declared.Phase.the-variants.{Idle, Probe, Map, Leaf, Set, Clear}
 use Rattle.tracker.specs.declared.Tracker.{Tracker}
@@ -119,6 +118,10 @@ module _ (l : ℕ) (lines : List ℕ) where
   unfolding implies no
   rest-fails i h q p = all-fails _ (length lines) i q (rw (le-leb l i h, used-is (getD lines i 0) p))
 
+-- a number past the table names an idle tracker
+pub tracker-past : (ts : List Tracker) (x : ℕ) → length ts ≡ 8 → 8 ≤ x → trackerAt ts x ≡ idle
+tracker-past ts x e q = List·getD-eq-default ts idle (omega arith)
+
 -- trackers t and up
 module _ (t : ℕ) (ts : List Tracker) where
   pub idle-start : all (λ x. implies (leb t x) (isIdle (trackerAt ts x))) t ≡ true
@@ -137,10 +140,7 @@ module _ (t : ℕ) (ts : List Tracker) where
   pub idle-past : (e : ℕ) → length ts ≡ 8 → e ≡ min t 8 → all (λ x. isIdle (trackerAt ts x)) e ≡ true → all (λ x. isIdle (trackerAt ts x)) t ≡ true
   idle-past e k m a =
       all-is _ t
-      (λ x h. ⊎-elim (λ (q : x < e). all-at _ e a x q) (λ (q : e ≤ x). rw (past x (omega arith)) refl) (lt-or-ge x e))
-    where
-      past : (x : ℕ) → length ts ≤ x → trackerAt ts x ≡ idle
-      past x q = List·getD-eq-default ts idle q
+      (λ x h. ⊎-elim (λ (q : x < e). all-at _ e a x q) (λ (q : e ≤ x). rw (tracker-past ts x k (omega arith)) refl) (lt-or-ge x e))
 
 -- the whole test, once the limits are known
 module _ (n t l hand : ℕ) (lines : List ℕ) (ts : List Tracker) where

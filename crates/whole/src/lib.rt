@@ -1,6 +1,7 @@
-// 01 "A state is whole when ..": the test, part by part, on lent lines and a table of trackers.
-// No public function has a `requires`; the parts that come after the limits may rely on them.
+// 01 "What is refused": whether a state is whole, part by part, on lent lines and a table of trackers; and the refusals of issue, step, drain and show that come after 4 and 2.
+// No public function has a `requires`; the parts of the whole test that come after the limits may rely on them.
 use geometry::Geometry;
+use tracker::Access;
 use tracker::Phase;
 use tracker::Tracker;
 ghost use mathlib.Core.Path.{_≡_};
@@ -8,11 +9,13 @@ ghost use Prim.Native.Nat.{_<_, _≤_, min};
 ghost use lib.Dec.{leb};
 ghost use lib.ListN.{length, getD};
 ghost use Rattle.laws.specs.Choice.{both, implies, no};
+ghost use Rattle.laws.specs.Refusal.{refusal};
 ghost use Rattle.laws.specs.Scan.{all};
 ghost use Rattle.tracker.specs.Tracker.{holdsAt, isIdle};
 ghost use Rattle.line.specs.Word.{used};
 ghost use Rattle.rules.specs.State.{trackerAt};
 ghost use Rattle.rules.specs.Whole.{limits, holds, lineWhole, phaseWhole, trackerWhole, whole};
+ghost use Rattle.rules.specs.Calls.{issueTests, stepTests, drainTests, showTests};
 ghost use Rattle.whole.specs.Parts.{stateOf, holderWhole, heldByIt};
 
 // n, T and L are in the limits.
@@ -226,7 +229,7 @@ pub fn whole(n: u32, t: u32, l: usize, hand: usize, lines: &[u32], trackers: [Tr
 }
 
 // Each of the t trackers is idle; those past the table are.
-pub fn all_idle(t: u32, trackers: [Tracker; 8]) -> bool
+fn all_idle(t: u32, trackers: [Tracker; 8]) -> bool
     ensures { λ r. ⌜ r ≡ all (λ x. isIdle (trackerAt trackers x)) t ⌝ }
 {
     let end = lesser(t, 8) as usize;
@@ -247,4 +250,56 @@ fn lesser(a: u32, b: u32) -> u32
     ensures { λ r. ⌜ r ≡ min a b ⌝ }
 {
     if a < b { a } else { b }
+}
+
+// Tracker x is idle; one past the table is.
+fn idle_at(trackers: [Tracker; 8], x: u64) -> bool
+    ensures { λ r. ⌜ r ≡ isIdle (trackerAt trackers x) ⌝ }
+{
+    if 8 <= x {
+        return true;
+    }
+    let k = x as usize;
+    let tracker = trackers[k];
+    tracker.is_idle()
+}
+
+// The refusal of an issue that comes after 4 and 2: 5, 6, 7; 0 if none.
+pub fn issue_refusal(n: u32, t: u32, x: u64, access: Access, trackers: [Tracker; 8]) -> u8
+    ensures { λ r. ⌜ r ≡ refusal (issueTests n t x access trackers) ⌝ }
+{
+    if t as u64 <= x {
+        return 5;
+    }
+    if Geometry::groups(n) <= access.group as u64 {
+        return 6;
+    }
+    if idle_at(trackers, x) { 0 } else { 7 }
+}
+
+// The refusal of a step that comes after 4 and 2: 5, 8; 0 if none.
+pub fn step_refusal(t: u32, x: u64, trackers: [Tracker; 8]) -> u8
+    ensures { λ r. ⌜ r ≡ refusal (stepTests t x trackers) ⌝ }
+{
+    if t as u64 <= x {
+        return 5;
+    }
+    if idle_at(trackers, x) { 8 } else { 0 }
+}
+
+// The refusal of a drain that comes after 4 and 2: 7; 0 if none.
+pub fn drain_refusal(t: u32, trackers: [Tracker; 8]) -> u8
+    ensures { λ r. ⌜ r ≡ refusal (drainTests (all (λ x. isIdle (trackerAt trackers x)) t)) ⌝ }
+{
+    if all_idle(t, trackers) { 0 } else { 7 }
+}
+
+// The refusal of showing leaf k that comes after 4 and 2: 6, 7; 0 if none.
+pub fn show_refusal(n: u32, t: u32, k: u64, trackers: [Tracker; 8]) -> u8
+    ensures { λ r. ⌜ r ≡ refusal (showTests n k (all (λ x. isIdle (trackerAt trackers x)) t)) ⌝ }
+{
+    if n as u64 <= k {
+        return 6;
+    }
+    drain_refusal(t, trackers)
 }

@@ -13,11 +13,17 @@ refuses-requires c κs = search needs
 enum-known-c-2 : tie.Need-enum-known-c-2
 enum-known-c-2 c = search needs
 
+read-of-requires : tie.Need-read-of-requires
+read-of-requires c κs = search needs
+
 issue-requires : tie.Need-issue-requires
 issue-requires c κs = search needs
 
 enum-known-c-3 : tie.Need-enum-known-c-3
 enum-known-c-3 c = search needs
+
+write-of-requires : tie.Need-write-of-requires
+write-of-requires c κs = search needs
 
 issue-requires-2 : tie.Need-issue-requires-2
 issue-requires-2 c κs = search needs
@@ -44,10 +50,10 @@ returns : tie.Need-returns
 returns c = by-rule (line-new _ _ _ _ _ _ _ (c .before .before .c .given .1)) (c .refuses .ensures _ _ _)
 
 returns-2 : tie.Need-returns-2
-returns-2 c = by-rule (line-read _ _ _ _ _ _ _ (c .before .before .c2 .given .1)) (c .issue .ensures _ _ _)
+returns-2 c = by-rule (line-read _ _ _ _ _ _ _ (c .before .before .before .c2 .given .1) (c .before .read-of .ensures)) (c .issue .ensures _ _ _)
 
 returns-3 : tie.Need-returns-3
-returns-3 c = by-rule (line-write _ _ _ _ _ _ _ (c .before .before .c3 .given .1)) (c .issue2 .ensures _ _ _)
+returns-3 c = by-rule (line-write _ _ _ _ _ _ _ (c .before .before .before .c3 .given .1) (c .before .write-of .ensures)) (c .issue2 .ensures _ _ _)
 
 same-length : tie.Need-same-length
 same-length c = search needs
@@ -83,8 +89,10 @@ follow-spec =
     enum-known-c
     refuses-requires
     enum-known-c-2
+    read-of-requires
     issue-requires
     enum-known-c-3
+    write-of-requires
     issue-requires-2
     enum-known-c-4
     one-step-requires

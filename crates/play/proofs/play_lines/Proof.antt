@@ -109,9 +109,6 @@ array-copy-out-u c = let k = c .before .before .before .before .before .before .
     let y : c .named .result < 8 = rw (c .named .ensures) x in
     omega arith
 
-resting-requires : tie.Need-resting-requires Inv-loop μ-loop
-resting-requires c κs = search needs
-
 slice-aggregate-follow : tie.Need-slice-aggregate-follow Inv-loop μ-loop
 slice-aggregate-follow c = search needs
 
@@ -119,24 +116,24 @@ follow-requires : tie.Need-follow-requires Inv-loop μ-loop
 follow-requires c κs = search needs
 
 mul-trackers : tie.Need-mul-trackers Inv-loop μ-loop
-mul-trackers c = let k = c .before .before .before .before .before .before .before .before .before .before .before .before .before .before .before .before .before .before .before .loop in
+mul-trackers c = let k = c .before .before .before .before .before .before .before .before .before .before .before .before .before .before .before .before .before .before .loop in
     let x = going-named _ (k .inv .0) _ in
-    let y : c .before .before .before .before .before .before .before .before .before .before .before .before .named .result < 8 = rw (c .before .before .before .before .before .before .before .before .before .before .before .before .named .ensures) x in
+    let y : c .before .before .before .before .before .before .before .before .before .before .before .named .result < 8 = rw (c .before .before .before .before .before .before .before .before .before .before .before .named .ensures) x in
     omega arith
 
 array-set-from-trackers : tie.Need-array-set-from-trackers Inv-loop μ-loop
-array-set-from-trackers c = let k = c .before .before .before .before .before .before .before .before .before .before .before .before .before .before .before .before .before .before .before .loop in
+array-set-from-trackers c = let k = c .before .before .before .before .before .before .before .before .before .before .before .before .before .before .before .before .before .before .loop in
     let x = going-named _ (k .inv .0) _ in
-    let y : c .before .before .before .before .before .before .before .before .before .before .before .before .named .result < 8 = rw (c .before .before .before .before .before .before .before .before .before .before .before .before .named .ensures) x in
+    let y : c .before .before .before .before .before .before .before .before .before .before .before .named .result < 8 = rw (c .before .before .before .before .before .before .before .before .before .before .before .named .ensures) x in
     omega arith
 
 put-line-requires : tie.Need-put-line-requires Inv-loop μ-loop
 put-line-requires c κs = search needs
 
 loop-less : tie.Need-loop-less Inv-loop μ-loop
-loop-less c = let k = c .before .before .before .before .before .before .before .before .before .before .before .before .before .before .before .before .before .before .before .before .before .before .before .loop in
-    let i = c .before .before .before .before .before .before .before .before .before .before .before .before .before .before .before .before .before .before .before .before .before .before .before .before .before .before .before .before .before .before .before .before .before .args .input .now in
-    let h = sym (c .before .before .before .before .before .before .before .before .before .before .before .before .before .before .before .before .before .before .before .before .before .goes-on .ensures) ∙ c .before .before .before .before .before .before .before .before .before .before .before .before .before .before .before .before .before .before .before .before .if1 .taken in
+loop-less c = let k = c .before .before .before .before .before .before .before .before .before .before .before .before .before .before .before .before .before .before .before .before .before .before .loop in
+    let i = c .before .before .before .before .before .before .before .before .before .before .before .before .before .before .before .before .before .before .before .before .before .before .before .before .before .before .before .before .before .before .before .before .args .input .now in
+    let h = sym (c .before .before .before .before .before .before .before .before .before .before .before .before .before .before .before .before .before .before .before .before .goes-on .ensures) ∙ c .before .before .before .before .before .before .before .before .before .before .before .before .before .before .before .before .before .before .before .if1 .taken in
     let b : k .e < length i = tested-end (k .e) i (k .output) (k .written) (k .k) h in
     let m : k .k < 18446744073709551615 = tested-number (k .e) i (k .output) (k .written) (k .k) h in
     let f : k .at ≤ lineEnd i (k .at) = lineEnd-from i (k .at) in
@@ -144,11 +141,11 @@ loop-less c = let k = c .before .before .before .before .before .before .before 
 
 loop-again : tie.Need-loop-again Inv-loop μ-loop
 unfolding part
-loop-again c = let k = c .before .before .before .before .before .before .before .before .before .before .before .before .before .before .before .before .before .before .before .before .before .before .before .loop in
-    let a = c .before .before .before .before .before .before .before .before .before .before .before .before .before .before .before .before .before .before .before .before .before .before .before .before .before .before .before .before .before .before .before .before .before .args in
+loop-again c = let k = c .before .before .before .before .before .before .before .before .before .before .before .before .before .before .before .before .before .before .before .before .before .before .loop in
+    let a = c .before .before .before .before .before .before .before .before .before .before .before .before .before .before .before .before .before .before .before .before .before .before .before .before .before .before .before .before .before .before .before .before .args in
     let i = a .input .now in
-    let on : goesOn i (under (a .state .n) (a .state .t) (a .state .l) (k .hand) (k .lines) (k .trackers) (k .bytes) (k .memory) (k .k) (k .at) (k .output) (k .written)) ≡ true = sym (on-is i (under (a .state .n) (a .state .t) (a .state .l) (k .hand) (k .lines) (k .trackers) (k .bytes) (k .memory) (k .k) (k .at) (k .output) (k .written)) (k .e) (k .inv .1)) ∙ sym (c .before .before .before .before .before .before .before .before .before .before .before .before .before .before .before .before .before .before .before .before .before .goes-on .ensures) ∙ c .before .before .before .before .before .before .before .before .before .before .before .before .before .before .before .before .before .before .before .before .if1 .taken in
-    (going-line i _ _ _ _ _ _ _ _ _ (k .at) _ _ (k .e) _ _ _ (k .inv .0) on (k .inv .1) (c .before .before .before .before .before .before .before .before .before .before .before .before .before .before .before .before .before .before .parse .ensures) (c .before .before .before .before .before .before .before .before .before .before .before .before .before .before .before .before .named .ensures) (c .before .before .before .before .before .before .before .before .before .before .before .before .before .before .resting .ensures) (c .before .before .before .before .before .before .before .before .before .before .follow .ensures) (c .before .before .put-line .ensures .0) (c .before .before .put-line .ensures .1), c .before .before .before .before .before .before .before .before .before .before .before .before .before .before .before .before .before .line-end2 .ensures, search needs, search needs, search needs, search needs, search needs)
+    let on : goesOn i (under (a .state .n) (a .state .t) (a .state .l) (k .hand) (k .lines) (k .trackers) (k .bytes) (k .memory) (k .k) (k .at) (k .output) (k .written)) ≡ true = sym (on-is i (under (a .state .n) (a .state .t) (a .state .l) (k .hand) (k .lines) (k .trackers) (k .bytes) (k .memory) (k .k) (k .at) (k .output) (k .written)) (k .e) (k .inv .1)) ∙ sym (c .before .before .before .before .before .before .before .before .before .before .before .before .before .before .before .before .before .before .before .before .goes-on .ensures) ∙ c .before .before .before .before .before .before .before .before .before .before .before .before .before .before .before .before .before .before .before .if1 .taken in
+    (going-line i _ _ _ _ _ _ _ _ _ (k .at) _ _ (k .e) _ _ (k .inv .0) on (k .inv .1) (c .before .before .before .before .before .before .before .before .before .before .before .before .before .before .before .before .before .parse .ensures) (c .before .before .before .before .before .before .before .before .before .before .before .before .before .before .before .named .ensures) (c .before .before .before .before .before .before .before .before .before .before .follow .ensures) (c .before .before .put-line .ensures .0) (c .before .before .put-line .ensures .1), c .before .before .before .before .before .before .before .before .before .before .before .before .before .before .before .before .line-end2 .ensures, search needs, search needs, search needs, search needs, search needs)
 
 same-length : tie.Need-same-length Inv-loop μ-loop
 same-length c = search needs
@@ -187,7 +184,6 @@ play-lines-spec =
     named-requires
     mul-u
     array-copy-out-u
-    resting-requires
     slice-aggregate-follow
     follow-requires
     mul-trackers

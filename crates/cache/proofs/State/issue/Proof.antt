@@ -14,22 +14,21 @@ refuse-requires : tie.Need-refuse-requires
 refuse-requires c κs = search needs
 
 returns : tie.Need-returns
-returns c = rw (c .refuse .ensures .0, c .refuse .ensures .1) (sym (issue-refused (seen (c .before .before .before .before .before .args .t1)) (c .before .before .before .before .before .args .bytes .now) (c .before .before .before .before .before .args .memory .now) (c .before .before .before .before .before .args .x) (c .before .before .before .before .before .args .g) (c .before .before .before .before .before .args .write) (c .before .before .before .before .before .args .bottom) (c .before .before .before .before .before .args .v) (c .before .before .issue-refusal .result) (c .before .before .issue-refusal .ensures) (omega arith)))
-
-cast-begin : tie.Need-cast-begin
-cast-begin c = omega (arith, issue-in (seen (c .before .before .before .before .args .t1)) (c .before .before .before .before .args .bytes .now) (c .before .before .before .before .args .memory .now) (c .before .before .before .before .args .x) (c .before .before .before .before .args .g) (omega arith) .1)
+returns c = let a = c .before .before .before .before .before .args in
+    rw (c .refuse .ensures .0, c .refuse .ensures .1) (sym (issue-refused (seen (a .t1)) (a .bytes .now) (a .memory .now) (a .x) (a .access) (c .before .before .issue-refusal .result) (c .before .before .issue-refusal .ensures) (omega arith)))
 
 begin-requires : tie.Need-begin-requires
 begin-requires c κs = search needs
 
 mul-tracker : tie.Need-mul-tracker
-mul-tracker c = omega (arith, issue-in (seen (c .before .before .before .before .before .args .t1)) (c .before .before .before .before .before .args .bytes .now) (c .before .before .before .before .before .args .memory .now) (c .before .before .before .before .before .args .x) (c .before .before .before .before .before .args .g) (omega arith) .0)
+mul-tracker c = let a = c .before .before .before .before .before .args in omega (arith, issue-in (seen (a .t1)) (a .bytes .now) (a .memory .now) (a .x) (a .access) (omega arith))
 
 element-set-from-tracker : tie.Need-element-set-from-tracker
-element-set-from-tracker c = omega (arith, issue-in (seen (c .before .before .before .before .before .args .t1)) (c .before .before .before .before .before .args .bytes .now) (c .before .before .before .before .before .args .memory .now) (c .before .before .before .before .before .args .x) (c .before .before .before .before .before .args .g) (omega arith) .0)
+element-set-from-tracker c = let a = c .before .before .before .before .before .args in omega (arith, issue-in (seen (a .t1)) (a .bytes .now) (a .memory .now) (a .x) (a .access) (omega arith))
 
 returns-2 : tie.Need-returns-2
-returns-2 c = rw (c .begin .ensures) (sym (issue-accepted (seen (c .before .before .before .before .before .args .t1)) (c .before .before .before .before .before .args .bytes .now) (c .before .before .before .before .before .args .memory .now) (c .before .before .before .before .before .args .x) (c .before .before .before .before .before .args .g) (c .before .before .before .before .before .args .write) (c .before .before .before .before .before .args .bottom) (c .before .before .before .before .before .args .v) (omega arith)))
+returns-2 c = let a = c .before .before .before .before .before .args in
+    rw (c .begin .ensures) (sym (issue-accepted (seen (a .t1)) (a .bytes .now) (a .memory .now) (a .x) (a .access) (omega arith)))
 
 pub issue-spec : {M : Type 1} → statement M
 issue-spec =
@@ -38,7 +37,6 @@ issue-spec =
     issue-refusal-requires
     refuse-requires
     returns
-    cast-begin
     begin-requires
     mul-tracker
     element-set-from-tracker

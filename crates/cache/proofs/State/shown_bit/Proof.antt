@@ -2,8 +2,7 @@
 use borrow.Author.Needs.{needs}
 use mathlib.Core.Path.{refl, sym, _∙_}
 use native.Mathlib.Omega.{arith}
-use Rattle.geometry.specs.TagMemory.{mapByteOf}
-use Rattle.geometry.specs.TagMemory.{mapBlockOf}
+use Rattle.geometry.specs.TagMemory.{mapByteOf, mapBlockOf}
 use Rattle.cache.specs.Seen.{seen}
 use Rattle.cache.proofs.Refusals.{bit-lined, bit-memory}
 use Rattle.cache.proofs.State.shown_bit.Statement.{statement}

@@ -1,0 +1,61 @@
+-- Laws of the refusals that come after 4 and 2: the number of the first test that fails, 0 where all hold.
+use mathlib.Core.Path.{_≡_}
+use mathlib.Core.List.{List}
+use mathlib.Core.Bool.{Bool, true, false}
+use Prim.Native.Nat.{ℕ, _≤_, _<_}
+use borrow.Author.Tests.{lt-ltb, le-ltb}
+use Rattle.laws.specs.Refusal.{refusal}
+use Rattle.geometry.specs.TagMemory.{groups}
+use Rattle.tracker.specs.declared.Access.{Access}
+use Rattle.tracker.specs.declared.Tracker.{Tracker}
+use Rattle.tracker.specs.Tracker.{isIdle}
+use Rattle.rules.specs.State.{trackerAt}
+use Rattle.rules.specs.Calls.{issueTests, stepTests, drainTests, showTests}
+
+module _ (n t x : ℕ) (a : Access) (us : List Tracker) where
+  pub issue-5 : t ≤ x → refusal (issueTests n t x a us) ≡ 5
+  unfolding refusal
+  issue-5 h = rw (le-ltb x t h)
+
+  pub issue-6 : x < t → groups n ≤ a .group → refusal (issueTests n t x a us) ≡ 6
+  unfolding refusal
+  issue-6 h k = rw (lt-ltb x t h, le-ltb (a .group) (groups n) k)
+
+  pub issue-7 : x < t → a .group < groups n → isIdle (trackerAt us x) ≡ false → refusal (issueTests n t x a us) ≡ 7
+  unfolding refusal
+  issue-7 h k q = rw (lt-ltb x t h, lt-ltb (a .group) (groups n) k, q)
+
+  pub issue-0 : x < t → a .group < groups n → isIdle (trackerAt us x) ≡ true → refusal (issueTests n t x a us) ≡ 0
+  unfolding refusal
+  issue-0 h k q = rw (lt-ltb x t h, lt-ltb (a .group) (groups n) k, q)
+
+module _ (t x : ℕ) (us : List Tracker) where
+  pub step-5 : t ≤ x → refusal (stepTests t x us) ≡ 5
+  unfolding refusal
+  step-5 h = rw (le-ltb x t h)
+
+  pub step-8 : x < t → isIdle (trackerAt us x) ≡ true → refusal (stepTests t x us) ≡ 8
+  unfolding refusal
+  step-8 h q = rw (lt-ltb x t h, q)
+
+  pub step-0 : x < t → isIdle (trackerAt us x) ≡ false → refusal (stepTests t x us) ≡ 0
+  unfolding refusal
+  step-0 h q = rw (lt-ltb x t h, q)
+
+module _ (rest : Bool) where
+  pub drain-7 : rest ≡ false → refusal (drainTests rest) ≡ 7
+  unfolding refusal
+  drain-7 q = rw q
+
+  pub drain-0 : rest ≡ true → refusal (drainTests rest) ≡ 0
+  unfolding refusal
+  drain-0 q = rw q
+
+  module _ (n k : ℕ) where
+    pub show-6 : n ≤ k → refusal (showTests n k rest) ≡ 6
+    unfolding refusal
+    show-6 h = rw (le-ltb k n h)
+
+    pub show-past-6 : k < n → refusal (showTests n k rest) ≡ refusal (drainTests rest)
+    unfolding refusal
+    show-past-6 h = rw (lt-ltb k n h)
