@@ -13,3 +13,4 @@ pub mod Image
 pub mod Runs
 pub mod Reached
 pub mod Worked
+pub mod Replay

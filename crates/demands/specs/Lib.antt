@@ -5,3 +5,4 @@ pub mod Image
 pub mod Circle
 pub mod Demand3
 pub mod Reached
+pub mod Replay
