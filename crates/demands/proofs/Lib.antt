@@ -14,3 +14,4 @@ pub mod Runs
 pub mod Reached
 pub mod Worked
 pub mod Replay
+pub mod OneResult

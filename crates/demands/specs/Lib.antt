@@ -6,3 +6,4 @@ pub mod Circle
 pub mod Demand3
 pub mod Reached
 pub mod Replay
+pub mod Demand1
