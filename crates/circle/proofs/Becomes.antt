@@ -3,7 +3,7 @@ use mathlib.Core.Path.{_≡_, refl}
 use mathlib.Core.Logic.{_≢_}
 use Prim.Native.Nat.{ℕ}
 use borrow.Author.Tests.{eq-eqb, ne-eqb}
-use Rattle.circle.specs.Circle.{becomes}
+use Rattle.circle.specs.Order.{becomes}
 
 pub becomes-same : {A : Type 0} (f : ℕ → A) (x : ℕ) (a : A) → becomes f x a x ≡ a
 becomes-same f x a = rw (eq-eqb x x refl)

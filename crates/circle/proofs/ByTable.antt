@@ -22,7 +22,7 @@ use Rattle.rules.specs.Place.{lineBytes, placeLine, Brought, bringIn}
 use Rattle.rules.specs.Step.{Turned, groupIn, bitIn, probe, onMap, map, leafRead, putIn, writeUnder1, writeUnder0, leafWrite, finish, holding, inLine, byPhase, fit, turnOf}
 use Rattle.rules.specs.Step as Step
 use Rattle.circle.specs.Table.{Move, waits, to, ends, rule}
-use Rattle.circle.specs.Ending.{Ending}
+use Rattle.circle.proofs.Ending.{Ending}
 
 -- the line of the map block of group g names a holder
 abbrev pub lockHeld : (n l : ℕ) → List ℕ → ℕ → Bool

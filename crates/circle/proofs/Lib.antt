@@ -1,3 +1,6 @@
+pub mod Ending
+pub mod Circle
+pub mod InTime
 pub mod Round
 pub mod Lock
 pub mod Bound
@@ -5,11 +8,7 @@ pub mod Levels
 pub mod TwoLevels
 pub mod ByTable
 pub mod Ready
-pub mod Calls
 pub mod Link
+pub mod Calls
 pub mod Becomes
 pub mod LongestWait
-pub mod Count
-pub mod Begins
-pub mod ToCode
-pub mod Reached

@@ -21,8 +21,8 @@ use Rattle.rules.specs.Run.{steps, Kept, kept, does}
 use Rattle.rules.proofs.Another.{Another}
 use Rattle.rules.proofs.Calls.{step-is}
 use Rattle.circle.specs.Table.{Move, waits, to, ends, rule}
-use Rattle.circle.specs.Ending.{Ending}
-use Rattle.circle.specs.Circle.{trackerIn}
+use Rattle.circle.proofs.Ending.{Ending}
+use Rattle.circle.proofs.Circle.{trackerIn}
 use Rattle.circle.proofs.ByTable.{lockHeld, Moved, Way, refused, moves, turn-way}
 use Rattle.circle.proofs.Ready.{Ready, long, never-refused, another, nobody}
 

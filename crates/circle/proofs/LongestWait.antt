@@ -18,12 +18,12 @@ use Rattle.rules.specs.State.{trackerAt}
 use Rattle.rules.specs.Whole.{mapBlock, holds}
 use Rattle.rules.specs.Calls.{Out}
 use Rattle.rules.specs.Run.{issues, steps, drains, Kept, kept, does}
-use Rattle.circle.specs.Order.{next, Order}
+use Rattle.circle.specs.Order.{next, Order, becomes}
 use Rattle.circle.specs.Table.{Move, waits, to, ends, rule}
 use Rattle.circle.specs.LastTurn.{bound, lastTurn}
-use Rattle.circle.specs.Ending.{Ending}
-use Rattle.circle.specs.Circle.{trackerIn, becomes, Circle, begins, turned, passed, issued, drained, refused}
-use Rattle.circle.specs.LongestWait.{InTime, LongestWait}
+use Rattle.circle.proofs.Ending.{Ending}
+use Rattle.circle.proofs.Circle.{trackerIn, Circle, begins, turned, passed, issued, drained, refused}
+use Rattle.circle.proofs.InTime.{InTime, LongestWait}
 use Rattle.circle.proofs.Levels.{rests, before, UnderWay, promises-begin, promises-issue, promises-turn, promises-over, promises-within, dueNow}
 use Rattle.circle.proofs.Levels as Levels
 use Rattle.circle.proofs.TwoLevels.{stand, twoLevels, fits, lastTurn-is}
@@ -239,7 +239,7 @@ module _ (M : ℕ) (o : Order (suc M)) where
 
     drain-at : (o' : Out) → Outcome k drains o' → o' .said ≡ ok → Ready (kept o') → Keeps (kept o') i given under
     drain-at o' (Calls.refused r q z) e s = absurd (ok-not-no (sym e ∙ q))
-    drain-at o' (Calls.drained lines memory is) e s =
+    drain-at o' (Calls.drained lines memory q is) e s =
         keeps-same (kept o') s (ap (λ (a : Out). a .state .n) is) (ap (λ (a : Out). a .state .t) is) (ap (λ (a : Out). a .state .trackers) is)
 
   keeps : {k : Kept} {i : ℕ} {given : ℕ → ℕ} {under : ℕ → Bool} → Circle (suc M) o k i given under → Keeps k i given under

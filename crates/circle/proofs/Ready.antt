@@ -1,10 +1,12 @@
 -- What a run under way can rely on: a whole state with the lengths right, which every call keeps; a busy tracker's step is never refused, and Map waits exactly under another's hold.
 use mathlib.Core.Path.{_≡_, ap}
 use mathlib.Core.Bool.{Bool, true, false}
+use mathlib.Core.Logic.{⊎-elim}
 use Prim.Native.Nat.{ℕ, _<_, _≤_}
 use lib.ListN.{length}
 use borrow.Author.Tests.{ltb-true, lt-ltb}
 use Rattle.laws.proofs.Choice.{not-both-ways, both-left, both-right, both-true}
+use Rattle.laws.proofs.Splice.{lt-or-ge}
 use Rattle.tracker.specs.declared.Access.{Access}
 use Rattle.tracker.specs.declared.Phase.the-variants.{Map}
 use Rattle.tracker.specs.Tracker.{isIdle, holdsAt}
@@ -18,7 +20,7 @@ use Rattle.rules.proofs.Keeps.{isNo}
 use Rattle.rules.proofs.Calls.{issue-kept, step-kept, drain-kept, step-not-refused}
 use Rattle.rules.proofs.Calls as Calls
 use Rattle.rules.proofs.Another.{Another, named-another, another-named}
-use Rattle.circle.specs.Circle.{trackerIn}
+use Rattle.circle.proofs.Circle.{trackerIn}
 use Rattle.circle.proofs.ByTable.{lockHeld}
 
 -- the lengths are right
@@ -34,6 +36,10 @@ ready-out n t l o h = (h .is-whole, rw (h .n-is, h .l-is) (h .right))
 module _ (k : Kept) (s : Ready k) where
   pub long : k .state .t ≤ length (k .state .trackers)
   long = whole-facts (k .state) (s .0) .tracked .long
+
+  -- a busy tracker is one of the T
+  pub busy-below : (x : ℕ) → isIdle (trackerIn k x) ≡ false → x < k .state .t
+  busy-below x b = ⊎-elim (λ h. h) (λ h. absurd (not-both-ways (whole-facts (k .state) (s .0) .tracked .above x h) b)) (lt-or-ge x (k .state .t))
 
   pub issue-keeps : (x : ℕ) (access : Access) → Ready (kept (does k (issues x access)))
   unfolding does

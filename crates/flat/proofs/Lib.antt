@@ -8,7 +8,5 @@ pub mod Steps
 pub mod Drains
 pub mod Rest
 pub mod Follows
-pub mod Moments
 pub mod Demand
-pub mod Promised
 pub mod Worked

@@ -1,9 +1,7 @@
--- A run of two trackers with an eviction, computed, is an instance of demand 2: the rules' answers, the flat row's, the moments and the memory at the end.
+-- A run of two trackers with an eviction, computed, beside the flat machine: the rules' answers, the machine's, and the memory at the end.
 use mathlib.Core.Path.{_≡_, refl}
 use mathlib.Core.Bool.{true, false}
 use mathlib.Core.List.{List, [], _∷_}
-use Prim.Native.Nat.{ℕ}
-use native.Mathlib.Omega.{arith}
 use lib.ListN.{replicate}
 use Rattle.geometry.specs.TagMemory.{leafOf, byteOf, groups, mapBlockOf, mapByteOf, mapBitOf, mapBlocks}
 use Rattle.laws.specs.Refusal.{refusal, unless}
@@ -25,9 +23,8 @@ use Rattle.rules.specs.Place.{rowsFit, placeLine, placeHand, writtenBack, place
 use Rattle.rules.specs.Step.{probe, onMap, map, leafRead, putIn, writeUnder1, writeUnder0, leafWrite, finish, inLine, fit, turnOf}
 use Rattle.rules.specs.Calls.{fresh, issueNo, issue, stepNo, step, allIdle, drainNo, drain}
 use Rattle.rules.specs.Run.{Call, issues, steps, drains, Kept, kept, does, answers, ended}
-use Rattle.flat.specs.Flat.{tagged, someHolds, Effect, flatIssue, flatStep, flatDrain, flatDoes, flatAnswers, flatEnded, effects}
-use Rattle.flat.specs.Demand.{found, given, flatOf, Values32, atRest, Flatly}
-use Rattle.flat.proofs.Demand.{fresh-is-flat}
+use Rattle.flat.specs.Flat.{tagged, someHolds, flatIssue, flatStep, flatDrain, flatDoes, flatAnswers, flatEnded}
+use Rattle.flat.specs.Demand.{found, given, flatOf}
 
 -- a fresh memory of four leaves over stale bytes, two trackers, three lines
 abbrev begun : Kept
@@ -51,44 +48,26 @@ said = ok ∷ ok ∷ moved ∷ moved ∷ read 10 1
     ∷ ok ∷ moved ∷ moved ∷ done 3
     ∷ ok ∷ []
 
--- the tracker and the group of each effect
-abbrev named : List Effect → List ℕ
-named [] = []
-named (e ∷ es) = e .who ∷ e .access .group ∷ named es
-
--- each value is an unsigned 32-bit number
-values : Values32 calls
-values = search arith depth 60 fits 4000
-
 pub record Worked : Type 0 where
   pub accepted : fresh 4 2 3 (replicate 192 7) (replicate 320 9) .said ≡ ok
   pub answered : answers begun calls ≡ said
   pub flat-answered : flatAnswers (flatOf begun) (given begun calls) ≡ said
-  -- the first write has its moment before the read, and ends after it
-  pub moments : named (effects (flatOf begun) (given begun calls)) ≡ 0 ∷ 17 ∷ 1 ∷ 17 ∷ 1 ∷ 33 ∷ 0 ∷ 49 ∷ 1 ∷ 17 ∷ 0 ∷ 33 ∷ []
   -- lines were taken from other blocks: the hand has moved on
   pub evicted : ended begun calls .state .hand ≡ 2
-  pub rests : atRest (ended begun calls) ≡ true
   pub reads : plainGroup 4 (ended begun calls .memory) 17 ≡ 10
   pub reads-emptied : plainGroup 4 (ended begun calls .memory) 33 ≡ 0
   pub row : flatEnded (flatOf begun) (given begun calls) .row 17 ≡ 10
   pub row-emptied : flatEnded (flatOf begun) (given begun calls) .row 33 ≡ 0
 
 pub worked : Worked
-unfolding both implies no refusal unless leafOf byteOf groups mapBlockOf mapByteOf mapBitOf mapBlocks part splice fits putW value bytes numberAt first all bitOf withBit inLimits bitAt putBit allZero blockOr0 leafBit plainGroup trueAt isTrue clearedMap used blockOf changed holder held has word heldBy cleaned lineOf lowestFree looseFrom victim after lengthsRight limits holds lineWhole trackerWhole whole rowsFit placeLine placeHand writtenBack placeMemory bringIn drained probe onMap map leafRead putIn writeUnder1 writeUnder0 leafWrite finish inLine fit turnOf fresh issueNo issue stepNo step allIdle drainNo drain does answers ended tagged someHolds flatIssue flatStep flatDrain flatDoes flatAnswers flatEnded effects found given atRest
+unfolding both implies no refusal unless leafOf byteOf groups mapBlockOf mapByteOf mapBitOf mapBlocks part splice fits putW value bytes numberAt first all bitOf withBit inLimits bitAt putBit allZero blockOr0 leafBit plainGroup trueAt isTrue clearedMap used blockOf changed holder held has word heldBy cleaned lineOf lowestFree looseFrom victim after lengthsRight limits holds lineWhole trackerWhole whole rowsFit placeLine placeHand writtenBack placeMemory bringIn drained probe onMap map leafRead putIn writeUnder1 writeUnder0 leafWrite finish inLine fit turnOf fresh issueNo issue stepNo step allIdle drainNo drain does answers ended tagged someHolds flatIssue flatStep flatDrain flatDoes flatAnswers flatEnded found given
 worked = record {
   accepted = refl;
   answered = refl;
   flat-answered = refl;
-  moments = refl;
   evicted = refl;
-  rests = refl;
   reads = refl;
   reads-emptied = refl;
   row = refl;
   row-emptied = refl;
 }
-
--- and the theorem speaks of it
-pub instance : Flatly begun calls
-instance = fresh-is-flat 4 2 3 (replicate 192 7) (replicate 320 9) (worked .accepted) calls values

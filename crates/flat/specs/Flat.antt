@@ -1,11 +1,11 @@
--- The flat row: the value of each group, and the accesses under way; no lines, no memory, no map.
+-- The timed flat machine: the value of each group, and the accesses under way with 01's steps; no lines, no memory, no map. It is the way from the rules to demand 2.
 -- An access takes effect on the row at one moment, which its steps give: "A write takes effect at its Leaf step, or where it ends 'same'; a read where it ends."
-use mathlib.Core.List.{List, [], _∷_, _++_}
+use mathlib.Core.List.{List, [], _∷_}
 use mathlib.Core.Bool.{Bool, true, false}
-use Prim.Native.Nat.{ℕ, _+_, _*_}
-use lib.Dec.{eqb, ltb}
+use Prim.Native.Nat.{ℕ}
+use lib.Dec.{eqb}
 use lib.ListN.{set}
-use Rattle.geometry.specs.TagMemory.{groups, groupOn}
+use Rattle.geometry.specs.TagMemory.{groupOn}
 use Rattle.laws.specs.Choice.{pick, both, implies, no}
 use Rattle.laws.specs.Scan.{all}
 use Rattle.laws.specs.Refusal.{refusal, unless}
@@ -173,7 +173,7 @@ flatDoes f found (steps x) = flatStep f found x
 flatDoes f found drains = flatDrain f
 flatDoes f found (lends b m c) = pick (lengthsRight (f .n) (f .l) b m) (flatDoes f found c) (refuse 2 f)
 
--- any list of calls: what they say, what is left at the end, and the accesses in the order of their moments
+-- any list of calls: what they say, and what is left at the end
 unfoldable pub flatAnswers : Flat → List Given → List Said
 flatAnswers f [] = []
 flatAnswers f (c ∷ cs) = flatDoes f (c .found) (c .call) .said ∷ flatAnswers (flatDoes f (c .found) (c .call) .flat) cs
@@ -181,12 +181,3 @@ flatAnswers f (c ∷ cs) = flatDoes f (c .found) (c .call) .said ∷ flatAnswers
 unfoldable pub flatEnded : Flat → List Given → Flat
 flatEnded f [] = f
 flatEnded f (c ∷ cs) = flatEnded (flatDoes f (c .found) (c .call) .flat) cs
-
-unfoldable pub effects : Flat → List Given → List Effect
-effects f [] = []
-effects f (c ∷ cs) = flatDoes f (c .found) (c .call) .effect ++ effects (flatDoes f (c .found) (c .call) .flat) cs
-
--- the row after accesses that take effect one after the other, each done whole
-unfoldable pub inOrder : Row → List Effect → Row
-inOrder row [] = row
-inOrder row (e ∷ es) = inOrder (after row (e .access)) es

@@ -1,4 +1,2 @@
 pub mod Flat
-pub mod Moments
 pub mod Demand
-pub mod Promised

@@ -1,0 +1,17 @@
+pub mod Log
+pub mod Watch
+pub mod Machine
+pub mod Start
+pub mod Noted
+pub mod Going
+pub mod Rounds
+pub mod Demand3
+pub mod Quiet
+pub mod Extends
+pub mod Demand2
+pub mod Image
+pub mod Runs
+pub mod Reached
+pub mod Worked
+pub mod Replay
+pub mod OneResult

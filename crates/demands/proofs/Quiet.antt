@@ -1,0 +1,192 @@
+-- Reads change no line: while only reads were issued since the last drain, or since the start, every line is clean.
+use mathlib.Core.Path.{_≡_, refl, ap, _∙_, subst}
+use mathlib.Core.Bool.{Bool, true, false}
+use mathlib.Core.List.{List, [], _∷_}
+use mathlib.Core.Logic.{⊎-elim}
+use Prim.Native.Nat.{ℕ, zero, suc, _*_, _+_, _<_, _≤_}
+use native.Mathlib.Omega.{arith}
+use lib.Dec.{eqb, ltb}
+use lib.ListN.{getD, set}
+use Rattle.laws.specs.Choice.{pick, both}
+use Rattle.laws.proofs.Choice.{not-both-ways}
+use Rattle.laws.proofs.Refusal.{unless-by}
+use Rattle.laws.proofs.Scan.{all-at}
+use Rattle.laws.proofs.Splice.{lt-or-ge}
+use Rattle.geometry.specs.TagMemory.{leafOf}
+use Rattle.tracker.specs.declared.Phase.{Phase}
+use Rattle.tracker.specs.declared.Phase.the-variants.{Idle, Probe, Map, Leaf, Set, Clear}
+use Rattle.tracker.specs.declared.Tracker.{Tracker}
+use Rattle.tracker.specs.Tracker.{isIdle}
+use Rattle.tracker.specs.Tracker as Tracker
+use Rattle.line.specs.Word.{changed, held, word, heldBy}
+use Rattle.line.specs.Find.{lineOf}
+use Rattle.line.proofs.Words.{free-changed, not-used, changed-odd}
+use Rattle.rules.specs.State.{Rows, trackerAt, lengthsRight}
+use Rattle.rules.specs.Whole.{mapBlock, phaseWhole}
+use Rattle.rules.specs.Place.{placeLine, Brought, bringIn}
+use Rattle.rules.specs.Step.{Turned, groupIn, bitIn, probe, onMap, map, leafRead, inLine, byPhase, fit, turnOf}
+use Rattle.rules.specs.Calls.{Out, stepNo, step, allIdle}
+use Rattle.rules.specs.Run.{Call, issues, steps, drains, Kept, kept, does, answers}
+use Rattle.rules.specs.Run as Run
+use Rattle.rules.proofs.Whole.{whole-facts}
+use Rattle.rules.proofs.Calls.{drain-is}
+use Rattle.flat.specs.Flat.{Row}
+use Rattle.flat.specs.Demand.{Values32}
+use Rattle.flat.proofs.Drains.{drains as drains-all}
+use Rattle.flat.proofs.Follows.{Ok, follows}
+use Rattle.circle.proofs.Circle.{trackerIn}
+use Rattle.circle.proofs.Ready.{Ready}
+use Rattle.circle.proofs.Link.{Anew, anew, each}
+use Rattle.circle.proofs.Calls.{bare, Outcome, outcome}
+use Rattle.circle.proofs.Calls as Calls
+use Rattle.demands.specs.Event.{Event, event, events, writtenBy, writtenFrom}
+use Rattle.demands.proofs.Machine.{pick-by}
+use Rattle.demands.proofs.Noted.{Turn, went, over, event-bare, step-turn}
+
+-- no line is changed
+abbrev pub Clean : List ℕ → Type 0
+Clean lines = (i : ℕ) → changed (getD lines i 0) ≡ false
+
+clean-set : (lines : List ℕ) (i w : ℕ) → Clean lines → changed w ≡ false → Clean (set lines i w)
+clean-set [] i w c h j = c j
+clean-set (v ∷ lines) zero w c h zero = h
+clean-set (v ∷ lines) zero w c h (suc j) = c (suc j)
+clean-set (v ∷ lines) (suc i) w c h zero = c zero
+clean-set (v ∷ lines) (suc i) w c h (suc j) = clean-set lines i w (λ k. c (suc k)) h j
+
+clean-word : (b h : ℕ) → changed (word b false h) ≡ false
+unfolding word
+clean-word b h = pick-by (λ (w : ℕ). changed w ≡ false) (both (ltb b 16777215) (ltb h 128)) (λ _. changed-odd (1 + 0 + 2 * h + 256 * b) (omega arith)) (λ _. free-changed)
+
+clean-held : (w h : ℕ) → changed w ≡ false → changed (heldBy w h) ≡ false
+unfolding heldBy
+clean-held w h e = rw e (clean-word _ h)
+
+clean-bring : (l hand b : ℕ) (r : Rows) → Clean (r .lines) → Clean (bringIn l hand b r .rows .lines)
+unfolding bringIn
+clean-bring l hand b r c = pick-by (λ (o : Brought). Clean (o .rows .lines)) (ltb (lineOf (r .lines) l b) l) (λ _. c)
+    (λ _. pick-by (λ (o : Brought). Clean (o .rows .lines)) (ltb (placeLine l hand (r .lines) (r .bytes)) l) (λ _. clean-set (r .lines) _ _ c (clean-word b 0)) (λ _. c))
+
+-- what a step leaves
+abbrev CleanAfter : Turned → Type 0
+CleanAfter o = Clean (o .rows .lines)
+
+module _ (n l hand x : ℕ) (t : Tracker) (r : Rows) (c : Clean (r .lines)) where
+  clean-probe : CleanAfter (probe l hand t r)
+  unfolding probe
+  clean-probe = pick-by CleanAfter (ltb (lineOf (r .lines) l (leafOf (t .group))) l)
+      (λ _. pick-by CleanAfter (t .write) (λ _. pick-by CleanAfter (eqb (groupIn (r .bytes) (lineOf (r .lines) l (leafOf (t .group))) (t .group)) (t .value)) (λ _. c) (λ _. c)) (λ _. c)) (λ _. c)
+
+  clean-onMap : (b : Brought) → Clean (b .rows .lines) → CleanAfter (onMap x t b)
+  unfolding onMap
+  clean-onMap b k =
+      let h : Clean (set (b .rows .lines) (b .line) (heldBy (getD (b .rows .lines) (b .line) 0) (x + 1))) = clean-set (b .rows .lines) (b .line) _ k (clean-held _ (x + 1) (k (b .line))) in
+      pick-by CleanAfter (eqb (bitIn (b .rows .bytes) (b .line) (t .group)) 0)
+      (λ _. pick-by CleanAfter (t .write) (λ _. pick-by CleanAfter (eqb (t .value) 0) (λ _. k) (λ _. h)) (λ _. k)) (λ _. h)
+
+  clean-map : CleanAfter (map n l hand x t r)
+  unfolding map
+  clean-map =
+      let m = mapBlock n (t .group) in
+      pick-by CleanAfter (both (ltb (lineOf (r .lines) l m) l) (held (getD (r .lines) (lineOf (r .lines) l m) 0))) (λ _. c)
+      (λ _. pick-by CleanAfter (ltb (bringIn l hand m r .line) l) (λ _. clean-onMap (bringIn l hand m r) (clean-bring l hand m r c)) (λ _. c))
+
+  clean-leafRead : (j : ℕ) → CleanAfter (leafRead l hand j t r)
+  unfolding leafRead
+  clean-leafRead j =
+      let b = bringIn l hand (leafOf (t .group)) r in
+      let k : Clean (b .rows .lines) = clean-bring l hand (leafOf (t .group)) r c in
+      pick-by CleanAfter (ltb (b .line) l) (λ _. clean-set (b .rows .lines) j _ k (clean-held _ 0 (k j))) (λ _. c)
+
+  module _ (reads : t .write ≡ false) where
+    clean-leaf : CleanAfter (inLine n l hand t r Leaf)
+    unfolding inLine
+    clean-leaf = pick-by CleanAfter (ltb (lineOf (r .lines) l (mapBlock n (t .group))) l)
+        (λ _. pick-by CleanAfter (t .write) (λ w. absurd (not-both-ways w reads)) (λ _. clean-leafRead (lineOf (r .lines) l (mapBlock n (t .group))))) (λ _. c)
+
+    clean-byPhase : (p : Phase) → phaseWhole (t .write) (t .bottom) p ≡ true → CleanAfter (byPhase n l hand x t r p)
+    clean-byPhase Idle h = c
+    clean-byPhase Probe h = clean-probe
+    clean-byPhase Map h = clean-map
+    clean-byPhase Leaf h = clean-leaf
+    clean-byPhase Set h = absurd (not-both-ways h reads)
+    clean-byPhase Clear h = absurd (not-both-ways h reads)
+
+    clean-turn : phaseWhole (t .write) (t .bottom) (t .phase) ≡ true → CleanAfter (turnOf n l hand x t r)
+    unfolding turnOf
+    clean-turn h = pick-by CleanAfter (fit n l x t r)
+        (λ _. pick-by CleanAfter (lengthsRight n l (r .bytes) (r .memory)) (λ _. clean-byPhase (t .phase) h) (λ _. c)) (λ _. c)
+
+clean-step : (k : Kept) (x : ℕ) → Ready k → Clean (k .state .lines) → trackerIn k x .write ≡ false → Clean (does k (steps x) .state .lines)
+unfolding does step
+clean-step k x s c e = unless-by {c = stepNo (k .state) (k .bytes) (k .memory) x} _ _ (λ (o : Out). Clean (o .state .lines))
+    (λ _. clean-turn (k .state .n) (k .state .l) (k .state .hand) x (trackerIn k x) _ c e (whole-facts (k .state) (s .0) .tracked .phase-ok x)) (λ _. c)
+
+-- every line is clean, and every access under way a read
+pub record Quiet (k : Kept) : Type 0 where
+  pub clean : Clean (k .state .lines)
+  pub reads : (x : ℕ) → isIdle (trackerIn k x) ≡ false → trackerIn k x .write ≡ false
+
+-- one call, and whether a write was issued since the last drain
+module _ (k : Kept) (row : Row) (a : Ok k row) (w : Bool) (Q : w ≡ false → Quiet k) where
+  s : Ready k
+  s = (a .is-whole, a .right)
+
+  quiet-turn : (x : ℕ) (t' : Tracker) (k' : Kept) (e : Event) → isIdle (trackerIn k x) ≡ false → Anew k k' x t' → Turn x (trackerIn k x) t' e
+      → (w ≡ false → Clean (k' .state .lines)) → writtenBy e w ≡ false → Quiet k'
+  quiet-turn x t' k' e b n (went q i m) c z =
+      let z' : w ≡ false = subst (λ (d : Event). writtenBy d w ≡ false) q z in
+      record { clean = c z'; reads = each (λ (y : ℕ) (t : Tracker). isIdle t ≡ false → t .write ≡ false) k k' x t' n (λ _. m .write ∙ Q z' .reads x b) (λ y ne. Q z' .reads y) }
+  quiet-turn x t' k' e b n (over d q i) c z =
+      let z' : w ≡ false = subst (λ (d : Event). writtenBy d w ≡ false) q z in
+      record { clean = c z'; reads = each (λ (y : ℕ) (t : Tracker). isIdle t ≡ false → t .write ≡ false) k k' x t' n (λ f. absurd (not-both-ways i f)) (λ y ne. Q z' .reads y) }
+
+  -- an issue: it is a read, and none was a write before
+  both-reads : (write v : Bool) → pick write true v ≡ false → (write ≡ false) × (v ≡ false)
+  both-reads true v e = absurd (not-both-ways refl e)
+  both-reads false v e = (refl, e)
+
+  -- an accepted drain
+  drained-quiet : allIdle (k .state) ≡ true → Ready (kept (does k drains)) → Quiet (kept (does k drains))
+  unfolding does allIdle
+  drained-quiet e s' =
+      let is = drain-is (k .state) (k .bytes) (k .memory) (a .is-whole) (a .right) e in
+      record {
+        clean = λ i. ⊎-elim
+            (λ (l : i < k .state .l). rw is (drains-all (a .agrees .good) (k .state .l) (omega arith) .clean i l))
+            (λ (l : k .state .l ≤ i). ap changed (not-used _ (whole-facts _ (s' .0) .lined .above i (rw is l))) ∙ free-changed)
+            (lt-or-ge i (k .state .l));
+        reads = λ x b. absurd (not-both-ways (rest x) (subst (λ (o : Out). isIdle (trackerAt (o .state .trackers) x) ≡ false) is b));
+      }
+    where
+      rest : (x : ℕ) → isIdle (trackerIn k x) ≡ true
+      rest x = ⊎-elim (λ (h : x < k .state .t). all-at (λ y. isIdle (trackerIn k y)) (k .state .t) e x h)
+          (λ (h : k .state .t ≤ x). whole-facts (k .state) (a .is-whole) .tracked .above x h) (lt-or-ge x (k .state .t))
+
+  quiet-at : (c : Call) (o : Out) → Outcome k c o → Ready (kept o) → writtenBy (event c (o .said)) w ≡ false → Quiet (kept o)
+  quiet-at c o (Calls.refused r q is) s' z = rw is (Q (subst (λ d. writtenBy (event c d) w ≡ false) q z))
+  quiet-at c o (Calls.issued x access h e is) s' z =
+      let f = both-reads (access .write) w (subst (λ (d : Out). writtenBy (event (issues x access) (d .said)) w ≡ false) is z) in
+      record {
+        clean = rw is (Q (f .1) .clean);
+        reads = each (λ (y : ℕ) (t : Tracker). isIdle t ≡ false → t .write ≡ false) k (kept o) x (Tracker.issued access)
+            (anew k (kept o) x (Tracker.issued access) s h (ap (λ (d : Out). d .state .n) is) (ap (λ (d : Out). d .state .t) is) (ap (λ (d : Out). d .state .trackers) is))
+            (λ _. f .0) (λ y ne. Q (f .1) .reads y);
+      }
+  quiet-at c o (Calls.stepped x h b) s' z =
+      let r = step-turn k s x h b in
+      quiet-turn x (r .0) (kept o) (event (steps x) (o .said)) b (r .1) (r .2) (λ z'. clean-step k x s (Q z' .clean) (Q z' .reads x b)) z
+  quiet-at c o (Calls.drained lines memory q is) s' z = drained-quiet q s'
+
+  quiet-call : (c : Call) → Ready (kept (does k c)) → writtenBy (event c (does k c .said)) w ≡ false → Quiet (kept (does k c))
+  quiet-call c s' z = quiet-at (bare c) (does k c) (outcome k s c) s' (subst (λ (d : Event). writtenBy d w ≡ false) (event-bare c (does k c .said)) z)
+
+-- a run
+pub quiet-run : (cs : List Call) (k : Kept) (row : Row) → Ok k row → Values32 cs → (w : Bool) → (w ≡ false → Quiet k)
+    → writtenFrom w (events cs (answers k cs)) ≡ false → Quiet (Run.ended k cs)
+unfolding events answers Run.ended writtenFrom
+quiet-run [] k row a v w Q z = Q z
+quiet-run (c ∷ cs) k row a v w Q z =
+    let f = follows k row a c (v .0) in
+    quiet-run cs (kept (does k c)) (f .row') (f .ok-still) (v .1) (writtenBy (event c (does k c .said)) w)
+    (quiet-call k row a w Q c (f .ok-still .is-whole, f .ok-still .right)) z
