@@ -35,7 +35,11 @@ mod paper {
     /// "one bit for a run of c data blocks .. the last run may be shorter": how many.
     pub fn runs(n: u64, c: u64) -> u64 {
         let whole = 16 * n / c;
-        if whole * c == 16 * n { whole } else { whole + 1 }
+        if whole * c == 16 * n {
+            whole
+        } else {
+            whole + 1
+        }
     }
 
     pub fn bits_length(n: u64, c: u64) -> u64 {
@@ -66,7 +70,11 @@ mod paper {
             Call::Read(g) | Call::Write(g, _) => g < 16 * n,
             Call::Sync(r) => r < runs(n, c),
         };
-        if there { None } else { Some(6) }
+        if there {
+            None
+        } else {
+            Some(6)
+        }
     }
 
     /// The answer; the lent bytes are changed as the paper says.
@@ -106,10 +114,42 @@ mod paper {
 use paper::Call;
 
 extern "C" {
-    fn tag_predict_fresh(n: u64, c: u64, tags: *mut u8, tags_length: usize, bits: *mut u8, bits_length: usize) -> u64;
-    fn tag_predict_read(n: u64, c: u64, tags: *const u8, tags_length: usize, bits: *const u8, bits_length: usize, g: u64) -> u64;
-    fn tag_predict_write(n: u64, c: u64, tags: *mut u8, tags_length: usize, bits: *mut u8, bits_length: usize, g: u64, v: u32) -> u64;
-    fn tag_predict_sync(n: u64, c: u64, tags: *const u8, tags_length: usize, bits: *mut u8, bits_length: usize, r: u64) -> u64;
+    fn tag_predict_fresh(
+        n: u64,
+        c: u64,
+        tags: *mut u8,
+        tags_length: usize,
+        bits: *mut u8,
+        bits_length: usize,
+    ) -> u64;
+    fn tag_predict_read(
+        n: u64,
+        c: u64,
+        tags: *const u8,
+        tags_length: usize,
+        bits: *const u8,
+        bits_length: usize,
+        g: u64,
+    ) -> u64;
+    fn tag_predict_write(
+        n: u64,
+        c: u64,
+        tags: *mut u8,
+        tags_length: usize,
+        bits: *mut u8,
+        bits_length: usize,
+        g: u64,
+        v: u32,
+    ) -> u64;
+    fn tag_predict_sync(
+        n: u64,
+        c: u64,
+        tags: *const u8,
+        tags_length: usize,
+        bits: *mut u8,
+        bits_length: usize,
+        r: u64,
+    ) -> u64;
 }
 
 const GUARD: usize = 16;
@@ -156,7 +196,15 @@ struct Both {
 
 impl Both {
     fn of(n: u64, c: u64, tags: Vec<u8>, bits: Vec<u8>) -> Both {
-        Both { n, c, tags: Row::of(&tags), bits: Row::of(&bits), model_tags: tags, model_bits: bits, calls: 0 }
+        Both {
+            n,
+            c,
+            tags: Row::of(&tags),
+            bits: Row::of(&bits),
+            model_tags: tags,
+            model_bits: bits,
+            calls: 0,
+        }
     }
 
     /// One call by both: the answer, after it and everything lent were compared.
@@ -223,7 +271,8 @@ fn drawn(random: &mut Random, n: u64, c: u64) -> Call {
 /// and .. once all runs are synchronised, with no write since the first, every bit 1 has
 /// one under it".
 fn sequence(random: &mut Random, n: u64, c: u64, calls: u64) -> u64 {
-    let (mut tags, mut bits) = (vec![0; 64 * n as usize], vec![0; paper::bits_length(n, c) as usize]);
+    let (mut tags, mut bits) =
+        (vec![0; 64 * n as usize], vec![0; paper::bits_length(n, c) as usize]);
     random.fill(&mut tags);
     random.fill(&mut bits);
     let mut both = Both::of(n, c, tags, bits);
@@ -237,9 +286,10 @@ fn sequence(random: &mut Random, n: u64, c: u64, calls: u64) -> u64 {
         let call = drawn(random, n, c);
         let answer = both.call(call);
         match call {
-            Call::Read(g) if g < 16 * n && answer != row[g as usize] as u64 => {
-                difference(format!("n {n}, c {c}: group {g} reads {answer}, the flat row has {}", row[g as usize]))
-            }
+            Call::Read(g) if g < 16 * n && answer != row[g as usize] as u64 => difference(format!(
+                "n {n}, c {c}: group {g} reads {answer}, the flat row has {}",
+                row[g as usize]
+            )),
             Call::Write(g, v) if g < 16 * n => row[g as usize] = v,
             _ => {}
         }
@@ -276,7 +326,8 @@ fn over_tags(both: &Both) {
 fn any_bytes(random: &mut Random, n: u64, c: u64, rounds: u64) -> u64 {
     let mut calls = 0;
     for _ in 0..rounds {
-        let (mut tags, mut bits) = (vec![0; 64 * n as usize], vec![0; paper::bits_length(n, c) as usize]);
+        let (mut tags, mut bits) =
+            (vec![0; 64 * n as usize], vec![0; paper::bits_length(n, c) as usize]);
         if random.percent(70) {
             random.fill(&mut tags);
         }
@@ -302,7 +353,8 @@ fn refusals(random: &mut Random) -> u64 {
             let (t, b) = if known { (64 * n, (16 * n / c + 15) / 8) } else { (64, 1) };
             for tags in [0, 1, t.saturating_sub(1), t, t + 1, 128 * (t / 64)] {
                 for bits in [0, b.saturating_sub(1), b, b + 1] {
-                    let (mut tag_bytes, mut bit_bytes) = (vec![0; tags as usize], vec![0; bits as usize]);
+                    let (mut tag_bytes, mut bit_bytes) =
+                        (vec![0; tags as usize], vec![0; bits as usize]);
                     random.fill(&mut tag_bytes);
                     random.fill(&mut bit_bytes);
                     let mut both = Both::of(n, c, tag_bytes, bit_bytes);
