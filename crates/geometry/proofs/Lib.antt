@@ -1,5 +1,6 @@
 pub mod Limits
 pub mod Lengths
 pub mod Places
+pub mod Groups
 pub mod One
 pub mod Tags

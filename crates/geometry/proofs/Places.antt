@@ -120,17 +120,3 @@ bit-outside n k h = omega arith
 pub map-one : (j k : ℕ) → mapBlockOf j ≡ mapBlockOf k → mapByteOf j ≡ mapByteOf k → mapBitOf j ≡ mapBitOf k → j ≡ k
 unfolding mapBlockOf mapByteOf mapBitOf
 map-one j k a b c = omega arith
-
--- groups follow each other, four bytes each, and fill the leaves
-pub groupPlace-is : (g : ℕ) → groupPlace g ≡ 4 * g
-unfolding leafOf byteOf
-groupPlace-is g = omega arith
-
-pub blockPlace-groups : (n : ℕ) → blockPlace n ≡ 4 * groups n
-unfolding groups
-blockPlace-groups n = omega arith
-
--- at most k leaves have at most 16k groups
-pub groups-most : (n k : ℕ) → n ≤ k → groups n ≤ 16 * k
-unfolding groups
-groups-most n k h = omega arith

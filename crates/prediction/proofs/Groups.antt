@@ -18,7 +18,8 @@ use Rattle.laws.proofs.Value.{length-bytes}
 use Rattle.laws.proofs.Scan.{all-at, all-is}
 use Rattle.laws.proofs.Writes.{getD-replicate}
 use Rattle.geometry.specs.TagMemory.{groups, blockPlace, groupPlace}
-use Rattle.geometry.proofs.Places.{group-inside, groupPlace-is, blockPlace-groups}
+use Rattle.geometry.proofs.Places.{group-inside}
+use Rattle.geometry.proofs.Groups.{groupPlace-is, blockPlace-groups}
 use Rattle.block.specs.Block.{groupAt, putGroup, allZero}
 use Rattle.block.proofs.Groups.{groupAt-not, groupAt-fits, groupAt-putGroup-same, groupAt-putGroup-other}
 use Rattle.block.proofs.Zero.{allZero-at, allZero-is, all-some}

@@ -25,9 +25,9 @@ pub record Done : Type 0 where
 abbrev pub done : ℕ → Lent → Done
 done answer s = record { answer = answer; lent = s }
 
--- a refusal c: "4,294,967,296 plus the refusal", and all lent bytes as they came
+-- a refused call answers "4,294,967,296 plus the refusal", and all lent bytes stay as they came
 abbrev pub refused : ℕ → ℕ
-refused c = 4294967296 + c
+refused k = 4294967296 + k
 
 -- "Refusals: 1, 15 for another c, 2, 6 for a group or run out of range": t and b are the lent lengths
 abbrev pub lentTests : (n c t b : ℕ) → Tests
