@@ -4,7 +4,7 @@ use mathlib.Core.Bool.{Bool}
 use mathlib.Core.List.{List}
 use Prim.Native.Nat.{ℕ}
 use Rattle.laws.specs.Choice.{pick}
-use Rattle.laws.specs.Bytes.{putW}
+use Rattle.laws.specs.Bytes.{part, fits, putW}
 use Rattle.laws.specs.Bits.{bitOf}
 use Rattle.geometry.proofs.One.{one}
 use Rattle.block.specs.Block.{blockOr0, groupAt, putGroup, bitAt, putBit, allZero}
@@ -14,6 +14,10 @@ write-block-one m at block = one
 
 pub read-block-one : (m : List ℕ) (at : ℕ) {r s : List ℕ} → r ≡ blockOr0 m at → s ≡ blockOr0 m at → r ≡ s
 read-block-one m at = one
+
+pub copy-block-one : (m : List ℕ) (at : ℕ) (row : List ℕ) (from : ℕ) {r s : List ℕ} → r ≡ pick (fits row from 64) (putW 64 m at (part row from 64)) m
+    → s ≡ pick (fits row from 64) (putW 64 m at (part row from 64)) m → r ≡ s
+copy-block-one m at row from = one
 
 pub group-at-one : (m : List ℕ) (at : ℕ) {r s : ℕ} → r ≡ groupAt m at → s ≡ groupAt m at → r ≡ s
 group-at-one m at = one

@@ -2,31 +2,64 @@
 // No public function has a `requires`: a read of what is not there gives zero, a write of it changes nothing.
 use geometry::Geometry;
 ghost use mathlib.Core.Path.{_≡_};
-ghost use Prim.Native.Nat.{_+_, _*_, _^_, _<_};
+ghost use Prim.Native.Nat.{_+_, _*_, _^_, _≤_, _<_};
 ghost use lib.ListN.{length};
 ghost use Rattle.laws.specs.Choice.{pick};
-ghost use Rattle.laws.specs.Bytes.{putW};
+ghost use Rattle.laws.specs.Bytes.{part, splice, fits, putW, bytes, numberAt};
 ghost use Rattle.laws.specs.Bits.{bitOf, withBit};
 ghost use Rattle.block.specs.Block.{blockOr0, groupAt, putGroup, bitAt, putBit, allZero};
 
-// All of src into dst, which is as long.
-fn copy_bytes(dst: &mut [u8], src: &[u8])
-    requires { ⌜ length (now dst) ≡ length (now src) ⌝ }
-    ensures { λ _. ⌜ now (dst .exit) ≡ now (src .entry) ⌝ }
+// Four bytes as a number, low byte first.
+fn join(a: u8, b: u8, c: u8, d: u8) -> u32
+    ensures { λ r. ⌜ r ≡ a + 256 * b + 65536 * c + 16777216 * d ⌝ }
 {
-    let mut i = 0;
-    while i < src.len() {
-        dst[i] = src[i];
-        i += 1;
-    }
+    a as u32 + 256 * (b as u32) + 65536 * (c as u32) + 16777216 * (d as u32)
 }
 
-// A block into bytes that are as long.
-fn copy_block(dst: &mut [u8], src: &[u8; Geometry::BLOCK_LEN])
-    requires { ⌜ length (now dst) ≡ 64 ⌝ }
+// The number whose four bytes begin at `at`.
+fn word_at(row: &[u8], at: usize) -> u32
+    requires { ⌜ at + 4 ≤ length (now row) ⌝ }
+    ensures { λ r. ⌜ r ≡ numberAt 4 (now (row .entry)) at ⌝ }
+{
+    join(row[at], row[at + 1], row[at + 2], row[at + 3])
+}
+
+// The number v into the four bytes from `at`.
+fn put_word(row: &mut [u8], at: usize, v: u32)
+    requires { ⌜ at + 4 ≤ length (now row) ⌝ }
+    ensures { λ _. ⌜ now (row .exit) ≡ splice (now (row .entry)) at (bytes 4 v) ⌝ }
+{
+    row[at] = (v % 256) as u8;
+    row[at + 1] = (v / 256 % 256) as u8;
+    row[at + 2] = (v / 256 / 256 % 256) as u8;
+    row[at + 3] = (v / 256 / 256 / 256 % 256) as u8;
+}
+
+// Sixteen bytes of src from `at` to the same places of dst. All four words are read before one is stored: so they move as one.
+fn copy_words(dst: &mut [u8], src: &[u8], at: usize)
+    requires { ⌜ (at + 16 ≤ length (now dst)) × (at + 16 ≤ length (now src)) ⌝ }
+    ensures { λ _. ⌜ now (dst .exit) ≡ splice (now (dst .entry)) at (part (now (src .entry)) at 16) ⌝ }
+{
+    let a = word_at(src, at);
+    let b = word_at(src, at + 4);
+    let c = word_at(src, at + 8);
+    let d = word_at(src, at + 12);
+    put_word(dst, at, a);
+    put_word(dst, at + 4, b);
+    put_word(dst, at + 8, c);
+    put_word(dst, at + 12, d);
+}
+
+// All of src into dst, a block each.
+fn copy_bytes(dst: &mut [u8], src: &[u8])
+    requires { ⌜ (length (now dst) ≡ 64) × (length (now src) ≡ 64) ⌝ }
     ensures { λ _. ⌜ now (dst .exit) ≡ now (src .entry) ⌝ }
 {
-    copy_bytes(dst, src);
+    let mut at = 0;
+    while at < Geometry::BLOCK_LEN {
+        copy_words(dst, src, at);
+        at += 16;
+    }
 }
 
 // The block into memory's part from `at`; where it does not fit, memory stays as it was.
@@ -39,7 +72,7 @@ pub fn write_block(memory: &mut [u8], at: usize, block: &[u8; Geometry::BLOCK_LE
     if memory.len() - Geometry::BLOCK_LEN < at {
         return;
     }
-    copy_block(&mut memory[at..at + Geometry::BLOCK_LEN], block);
+    copy_bytes(&mut memory[at..at + Geometry::BLOCK_LEN], block);
 }
 
 // The block at `at`; zeros where its bytes are not all there.
@@ -57,11 +90,26 @@ pub fn read_block(memory: &[u8], at: usize) -> [u8; Geometry::BLOCK_LEN]
     block
 }
 
-// Four bytes as a number, low byte first.
-fn join(a: u8, b: u8, c: u8, d: u8) -> u32
-    ensures { λ r. ⌜ r ≡ a + 256 * b + 65536 * c + 16777216 * d ⌝ }
+// The block of `row` from `from` into memory's part from `at`; where either has not 64 bytes there, memory stays as it was.
+pub fn copy_block(memory: &mut [u8], at: usize, row: &[u8], from: usize)
+    ensures { λ _. ⌜ now (memory .exit) ≡ pick (fits (now (row .entry)) from 64) (putW 64 (now (memory .entry)) at (part (now (row .entry)) from 64)) (now (memory .entry)) ⌝ }
 {
-    a as u32 + 256 * (b as u32) + 65536 * (c as u32) + 16777216 * (d as u32)
+    if row.len() < Geometry::BLOCK_LEN {
+        return;
+    }
+    if row.len() - Geometry::BLOCK_LEN < from {
+        return;
+    }
+    if memory.len() < Geometry::BLOCK_LEN {
+        return;
+    }
+    if memory.len() - Geometry::BLOCK_LEN < at {
+        return;
+    }
+    copy_bytes(
+        &mut memory[at..at + Geometry::BLOCK_LEN],
+        &row[from..from + Geometry::BLOCK_LEN],
+    );
 }
 
 // The group whose four bytes begin at `at`; 0 where they are not all there.
@@ -74,7 +122,7 @@ pub fn group_at(row: &[u8], at: usize) -> u32
     if row.len() - Geometry::GROUP_LEN < at {
         return 0;
     }
-    join(row[at], row[at + 1], row[at + 2], row[at + 3])
+    word_at(row, at)
 }
 
 // Group v into its four bytes from `at`; where they do not fit, nothing changes.
@@ -87,10 +135,7 @@ pub fn put_group(row: &mut [u8], at: usize, v: u32)
     if row.len() - Geometry::GROUP_LEN < at {
         return;
     }
-    row[at] = (v % 256) as u8;
-    row[at + 1] = (v / 256 % 256) as u8;
-    row[at + 2] = (v / 256 / 256 % 256) as u8;
-    row[at + 3] = (v / 256 / 256 / 256 % 256) as u8;
+    put_word(row, at, v);
 }
 
 // Every byte is zero.

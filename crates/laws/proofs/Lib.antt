@@ -6,3 +6,4 @@ pub mod Value
 pub mod Scan
 pub mod Bits
 pub mod Pigeon
+pub mod Parts

@@ -1,28 +1,15 @@
 -- Laws of writes that fit, of writes that do not, and of parts that were lent.
-use mathlib.Core.Path.{_≡_, refl, ap, sym, _∙_}
-use mathlib.Core.List.{List, [], _∷_, _++_, append-nil}
+use mathlib.Core.Path.{_≡_, ap, sym, _∙_}
+use mathlib.Core.List.{List}
 use mathlib.Core.Logic.{⊎-elim}
-use Prim.Native.Nat.{ℕ, suc, _+_, _-_, _≤_, _<_}
-use native.Mathlib.Numerals.{add-one}
+use Prim.Native.Nat.{ℕ, _+_, _-_, _≤_, _<_}
 use native.Mathlib.Omega.{arith}
 use borrow.Rule.Slice.PartMut.{putMid}
 use borrow.Author.Tests.{le-leb, lt-leb}
-use lib.ListN.{length, take, drop, getD, set, length-take, length-drop}
-use lib.Seq.{drop-cons, take-suc, set-at, append-snoc, length-take-le, drop-drop, take-length, drop-length}
+use lib.ListN.{length, take, drop, length-take, length-drop}
+use lib.Seq.{drop-drop}
 use Rattle.laws.specs.Bytes.{splice, part, fits, putW}
 use Rattle.laws.proofs.Splice.{length-splice, lt-or-ge}
-
--- a turn of a copy from the front: i bytes of s are in place, and the store puts one more
-pub front-more : (s d : List ℕ) (i : ℕ) → i < length s → length s ≡ length d
-    → set (take i s ++ drop i d) i (getD s i 0) ≡ take (i + 1) s ++ drop (i + 1) d
-front-more s d i h e =
-    let hd : i < length d = omega arith in
-    let hl : length (take i s) ≡ i = length-take-le i s (omega arith) in
-    rw (drop-cons d i 0 hd, set-at (take i s) (getD d i 0) (drop (suc i) d) (getD s i 0) i hl, add-one, take-suc s i 0 h)
-    (sym (append-snoc (take i s) (getD s i 0) (drop (suc i) d)))
-
-pub front-all : (s d : List ℕ) → length s ≡ length d → take (length s) s ++ drop (length s) d ≡ s
-front-all s d e = rw (take-length, e, drop-length d) (append-nil s)
 
 -- a part `&s[a..a + n]`, as the borrow checker has it
 pub part-is : (m : List ℕ) (a n : ℕ) → take (a + n - a) (drop a m) ≡ part m a n

@@ -7,7 +7,9 @@ use native.Mathlib.Nat.{add-zero}
 use native.Mathlib.Omega.{arith}
 use lib.ListN.{length, take, drop, getD, set, replicate, take-append-drop, length-append, length-replicate, replicate-append-replicate}
 use lib.Seq.{length-take-le, take-at, drop-drop, drop-append-add, drop-cons, drop-length, set-at, take-suc, append-snoc}
-use Rattle.laws.specs.Bytes.{splice}
+use Rattle.laws.specs.Bytes.{part, splice}
+use Rattle.laws.proofs.Splice.{length-part′}
+use Rattle.laws.proofs.Parts.{part-add}
 
 pub splice-none : (l : List ℕ) (at : ℕ) → splice l at [] ≡ l
 unfolding splice
@@ -43,6 +45,13 @@ splice-set l at v x k e h =
     let q : at + length (v ++ (x ∷ [])) ≡ suc k = omega (arith, length-append v (x ∷ [])) in
     let a : take at l ++ (v ++ drop k l) ≡ (take at l ++ v) ++ (getD l k 0 ∷ drop (suc k) l) = rw (← drop-cons l k 0 h) (sym (append-assoc (take at l) v (drop k l))) in
     rw (← e, a, set-at (take at l ++ v) (getD l k 0) (drop (suc k) l) x k tv, q) (simp append-assoc)
+
+-- a copy of n bytes of s, then of the w after them
+pub splice-part-more : (d : List ℕ) (at : ℕ) (s : List ℕ) (from n w : ℕ) → at + n ≤ length d → from + n ≤ length s
+    → splice (splice d at (part s from n)) (at + n) (part s (from + n) w) ≡ splice d at (part s from (n + w))
+splice-part-more d at s from n w g h =
+    let l : length (part s from n) ≡ n = length-part′ s from n h in
+    splice-then d at (part s from n) (part s (from + n) w) (at + n) (omega arith) g ∙ ap (splice d at) (sym (part-add s from n w))
 
 -- a turn of a loop that copies, and of one that fills
 pub splice-copy : (l : List ℕ) (at : ℕ) (s : List ℕ) (i : ℕ) → at + length s ≤ length l → i < length s → set (splice l at (take i s)) (at + i) (getD s i 0) ≡ splice l at (take (i + 1) s)

@@ -9,12 +9,12 @@ use native.Mathlib.Numerals.{add-one}
 use lib.Dec.{eqb, ltb}
 use lib.ListN.{length, getD, set, length-set}
 use borrow.Author.Tests.{lt-ltb, le-ltb, le-leb, lt-leb, ltb-true, leb-true, eqb-true, eqb-false, eq-eqb, ne-eqb}
-use Rattle.laws.specs.Choice.{both}
+use Rattle.laws.specs.Choice.{pick, both}
 use Rattle.laws.proofs.Choice.{true-or-false, both-true, both-left, both-right}
-use Rattle.laws.specs.Bytes.{putW}
+use Rattle.laws.specs.Bytes.{part, fits, putW}
 use Rattle.geometry.specs.TagMemory.{blockPlace}
 use Rattle.block.specs.Block.{blockOr0}
-use Rattle.block.proofs.Blocks.{blockOr0-fits}
+use Rattle.block.proofs.Blocks.{copy-fits}
 use Rattle.line.specs.Word.{blockOf, changed, word, cleaned}
 use Rattle.line.specs.Find.{lineOf, lowestFree, victim, after}
 use Rattle.line.proofs.Words.{changed-none}
@@ -61,16 +61,16 @@ gives i h ls bs m e = rw e (record { line = refl; hand = refl; lines = refl; byt
 pub given : {b : Brought} {i h : ℕ} {ls bs m : List ℕ} → Gives b i h ls bs m → b ≡ (record { line = i; hand = h; rows = rows ls bs m })
 given g = rw (g .line, g .hand, g .lines, g .bytes, g .memory) refl
 
--- writing line i back: a clean one, and a changed one through an array
+-- writing line i back: a clean one, and a changed one straight from its bytes
 module _ (lines bytes memory : List ℕ) (i : ℕ) where
   pub written-not : changed (getD lines i 0) ≡ false → memory ≡ writtenBack lines bytes memory i
   unfolding writtenBack
   written-not e = rw e refl
 
-  pub written-is : {b at : ℕ} {y m : List ℕ} → 64 * i + 64 ≤ length bytes → changed (getD lines i 0) ≡ true → b ≡ blockOf (getD lines i 0)
-      → at ≡ blockPlace b → y ≡ blockOr0 bytes (64 * i) → m ≡ putW 64 memory at y → m ≡ writtenBack lines bytes memory i
+  pub written-is : {b at : ℕ} {m : List ℕ} → 64 * i + 64 ≤ length bytes → changed (getD lines i 0) ≡ true → b ≡ blockOf (getD lines i 0)
+      → at ≡ blockPlace b → m ≡ pick (fits bytes (64 * i) 64) (putW 64 memory at (part bytes (64 * i) 64)) memory → m ≡ writtenBack lines bytes memory i
   unfolding writtenBack
-  written-is h e eb ea ey em = rw (em, ey, ea, eb, blockOr0-fits bytes (64 * i) h, e) refl
+  written-is {b} {at} h e eb ea em = em ∙ sym (copy-fits memory at bytes (64 * i) h) ∙ rw (ea, eb, e) refl
 
 -- a line is taken only where the rows fit
 module _ (l hand : ℕ) (lines bytes : List ℕ) where

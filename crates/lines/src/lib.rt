@@ -34,7 +34,7 @@ pub fn rows_fit(l: usize, lines: &[u32], bytes: &[u8]) -> bool
     bytes_fit(l, bytes)
 }
 
-// Line i, if it is changed, to its block's own place in memory, through an array.
+// Line i, if it is changed, straight from its bytes to its block's own place in memory.
 fn write_back(i: usize, lines: &[u32], bytes: &[u8], memory: &mut [u8])
     requires { ⌜ (i < length (now lines)) × (64 * i + 64 ≤ length (now bytes)) ⌝ }
     ensures { λ _. ⌜ now (memory .exit) ≡ writtenBack (now (lines .entry)) (now (bytes .entry)) (now (memory .entry)) i ⌝ }
@@ -43,8 +43,8 @@ fn write_back(i: usize, lines: &[u32], bytes: &[u8], memory: &mut [u8])
     if !line::changed(w) {
         return;
     }
-    let through = block::read_block(bytes, Geometry::BLOCK_LEN * i);
-    block::write_block(memory, Geometry::block_place(line::block_of(w)), &through);
+    let at = Geometry::block_place(line::block_of(w));
+    block::copy_block(memory, at, bytes, Geometry::BLOCK_LEN * i);
 }
 
 // Placing a block: the line to take, written back if it was changed, and the hand.

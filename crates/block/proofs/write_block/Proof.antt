@@ -15,28 +15,28 @@ sub-if2 c = search needs
 returns-2 : tie.Need-returns-2
 returns-2 c = sym (putW-not 64 _ (c .before .before .before .args .at) _ (omega arith))
 
-add-copy-block : tie.Need-add-copy-block
-add-copy-block c = search needs
+add-copy-bytes : tie.Need-add-copy-bytes
+add-copy-bytes c = search needs
 
-sub-copy-block : tie.Need-sub-copy-block
-sub-copy-block c = search needs
+sub-copy-bytes : tie.Need-sub-copy-bytes
+sub-copy-bytes c = search needs
 
-part-copy-block-start : tie.Need-part-copy-block-start
-part-copy-block-start c = search needs
+part-copy-bytes-start : tie.Need-part-copy-bytes-start
+part-copy-bytes-start c = search needs
 
-part-copy-block-end : tie.Need-part-copy-block-end
-part-copy-block-end c = search needs
+part-copy-bytes-end : tie.Need-part-copy-bytes-end
+part-copy-bytes-end c = search needs
 
-copy-block-requires : tie.Need-copy-block-requires
-copy-block-requires c κs = search needs
+copy-bytes-requires : tie.Need-copy-bytes-requires
+copy-bytes-requires c κs = search needs
 
 same-length : tie.Need-same-length
 same-length c = search needs
 
 returns-3 : tie.Need-returns-3
 returns-3 c =
-    let st = c .before .before .before .before .before .before .before in
-    putW-is (st .args .memory .now) (st .args .at) 64 (omega arith) (c .before .before .copy-block .ensures) (c .before .before .copy-block .kept .0)
+    let st = c .before .before .before .before .before .before .before .before in
+    putW-is (st .args .memory .now) (st .args .at) 64 (omega arith) (c .before .before .copy-bytes .ensures) (c .before .before .copy-bytes .kept .0)
 
 pub write-block-spec : {M : Type 1} → statement M
 write-block-spec =
@@ -45,10 +45,10 @@ write-block-spec =
     returns
     sub-if2
     returns-2
-    add-copy-block
-    sub-copy-block
-    part-copy-block-start
-    part-copy-block-end
-    copy-block-requires
+    add-copy-bytes
+    sub-copy-bytes
+    part-copy-bytes-start
+    part-copy-bytes-end
+    copy-bytes-requires
     same-length
     returns-3)

@@ -1,4 +1,4 @@
--- `write_back` meets its contract: a clean line is not written, a changed one goes through the array to its block's place.
+-- `write_back` meets its contract: a clean line is not written, a changed one goes straight to its block's place.
 use borrow.Author.Needs.{needs}
 use mathlib.Core.Path.{sym, _∙_}
 use native.Mathlib.Omega.{arith}
@@ -19,26 +19,41 @@ changed-requires c κs = search needs
 returns : tie.Need-returns
 returns c = written-not _ _ _ (c .before .before .before .before .before .before .args .i) (sym (c .before .changed .ensures) ∙ not-true _ (c .if1 .taken))
 
-mul-read-block : tie.Need-mul-read-block
-mul-read-block c = search needs
-
-read-block-requires : tie.Need-read-block-requires
-read-block-requires c κs = search needs
-
 block-of-requires : tie.Need-block-of-requires
 block-of-requires c κs = search needs
 
 block-place-requires : tie.Need-block-place-requires
 block-place-requires c κs = search needs
 
-write-block-requires : tie.Need-write-block-requires
-write-block-requires c κs = search needs
+mul-copy-block : tie.Need-mul-copy-block
+mul-copy-block c = search needs
+
+copy-block-requires : tie.Need-copy-block-requires
+copy-block-requires c κs = search needs
 
 same-length : tie.Need-same-length
 same-length c = search needs
 
 returns-2 : tie.Need-returns-2
-returns-2 c = written-is _ _ _ (c .before .before .before .before .before .before .before .before .before .before .before .before .before .before .args .i) (omega arith) (sym (c .before .before .before .before .before .before .before .before .before .changed .ensures) ∙ not-false _ (c .before .before .before .before .before .before .before .before .if1 .left)) (c .before .before .before .before .before .block-of .ensures) (c .before .before .before .before .block-place .ensures) (c .before .before .before .before .before .before .before .read-block .ensures) (c .before .before .write-block .ensures)
+returns-2 c =
+    let placed = c .before .before .before .before in
+    let tested = placed .before .before in
+    let a = tested .before .before .before .before .before .before .args in
+    written-is (a .lines .now) (a .bytes .now) (a .memory .now) (a .i) (omega arith)
+    (sym (tested .before .changed .ensures) ∙ not-false _ (tested .if1 .left))
+    (placed .before .block-of .ensures) (placed .block-place .ensures) (c .before .before .copy-block .ensures)
 
 pub write-back-spec : {M : Type 1} → statement M
-write-back-spec = tie.close (tie.spec mul-w shared-slice-read-w changed-requires returns mul-read-block read-block-requires block-of-requires block-place-requires write-block-requires same-length returns-2)
+write-back-spec =
+    tie.close
+    (tie.spec
+    mul-w
+    shared-slice-read-w
+    changed-requires
+    returns
+    block-of-requires
+    block-place-requires
+    mul-copy-block
+    copy-block-requires
+    same-length
+    returns-2)
