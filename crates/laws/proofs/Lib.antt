@@ -7,3 +7,4 @@ pub mod Scan
 pub mod Bits
 pub mod Pigeon
 pub mod Parts
+pub mod Count

@@ -2,3 +2,4 @@ pub mod Choice
 pub mod Bytes
 pub mod Scan
 pub mod Bits
+pub mod Count
