@@ -8,3 +8,4 @@ pub mod Bits
 pub mod Pigeon
 pub mod Refusal
 pub mod Parts
+pub mod Count

@@ -25,7 +25,8 @@ module _ (p : ℕ → Bool) where
   unfolding first
   first-suc-miss n e f = rw (e, le-ltb n n (omega arith), f)
 
-  first-suc-old : (n : ℕ) → first p n < n → first p (suc n) ≡ first p n
+  -- one more place does not move a first that is there
+  pub first-suc-old : (n : ℕ) → first p n < n → first p (suc n) ≡ first p n
   unfolding first
   first-suc-old n l = rw (lt-ltb (first p n) n l)
 
@@ -84,6 +85,10 @@ module _ (p : ℕ → Bool) where
 
   pub none-first : (n k : ℕ) → first p n ≡ n → k < n → p k ≡ false
   none-first n k e l = first-before n k (omega arith)
+
+  -- where it holds at a place below n, the first is below n
+  pub first-some : (n k : ℕ) → k < n → p k ≡ true → first p n < n
+  first-some n k l t = ⊎-elim (λ (e : first p n ≡ n). absurd (not-both-ways t (none-first n k e l))) (λ (h : first p n < n). h) (eq-or-lt-of-le (first-≤ n))
 
 -- two tests that agree below n have the same first
 pub first-same : (p q : ℕ → Bool) (n : ℕ) → ((k : ℕ) → k < n → p k ≡ q k) → first p n ≡ first q n

@@ -3,3 +3,4 @@ pub mod Bytes
 pub mod Scan
 pub mod Bits
 pub mod Refusal
+pub mod Count

@@ -9,7 +9,7 @@ use Rattle.laws.specs.Bytes.{splice, fits}
 use Rattle.tracker.specs.Answer.{Said, ok, wait, moved, read, done, same, no, says}
 use Rattle.tracker.specs.declared.Answer.{Answer}
 use Rattle.tracker.specs.declared.Answer.the-variants.{Accepted, Wait, Moved, Read, Done, Same, No}
-use Rattle.text.specs.Text.{digits, places, decimal, hex, turns, saidText, lineText, most, lineIn}
+use Rattle.text.specs.Text.{digits, places, decimal, hex, turns, saidText, Narrow, answerLine, lineText, most, lineIn}
 use Rattle.text.proofs.Numbers.{length-digits, length-decimal, places-8, places-16, places-64}
 use Rattle.laws.proofs.Writes.{splice-none}
 use Rattle.text.proofs.Writes.{then-put, then-end}
@@ -74,16 +74,6 @@ pub length-read : (v k : ℕ) → length (saidText (read v k)) ≡ 20 + places k
 unfolding saidText hex turns
 length-read v k = simp (length-append, length-digits, length-decimal) (omega arith)
 
--- the values that answers carry
-abbrev pub Narrow : Said → Type 0
-Narrow ok = Unit {0}
-Narrow wait = Unit {0}
-Narrow moved = Unit {0}
-Narrow (read v k) = k < 65536
-Narrow (done k) = k < 65536
-Narrow (same k) = k < 65536
-Narrow (no c) = c < 256
-
 -- a line in four pieces
 module _ (m : List ℕ) (a k : ℕ) (said : Said) {m1 m2 m3 m4 : List ℕ} {p q e r : ℕ}
     (h : a + most ≤ length m) (b : k < 18446744073709551616)
@@ -92,7 +82,7 @@ module _ (m : List ℕ) (a k : ℕ) (said : Said) {m1 m2 m3 m4 : List ℕ} {p q 
     (e3 : m3 ≡ splice m2 q (saidText said)) (f3 : e ≡ q + length (saidText said)) (g3 : e ≤ q + 25)
     (e4 : m4 ≡ splice m3 e (10 ∷ [])) (f4 : r ≡ e + 1) where
   pieces : ((decimal k ++ (32 ∷ [])) ++ saidText said) ++ (10 ∷ []) ≡ lineText k said
-  unfolding lineText
+  unfolding lineText answerLine
   pieces = simp append-assoc
 
   pub line-is : (m4 ≡ splice m a (lineText k said)) × (r ≡ a + length (lineText k said))
@@ -132,5 +122,5 @@ said-≤ (same k) n = omega (arith, length-decimal k, places-16 k n)
 said-≤ (no c) n = omega (arith, length-decimal c, places-8 c n)
 
 pub line-≤ : (k : ℕ) (said : Said) → k < 18446744073709551616 → Narrow said → length (lineText k said) ≤ most
-unfolding lineText
+unfolding lineText answerLine
 line-≤ k said h n = simp length-append (omega (arith, length-decimal k, places-64 k h, said-≤ said n))

@@ -11,7 +11,7 @@ use borrow.Author.Tests.{lt-ltb, le-ltb}
 use Rattle.laws.proofs.Splice.{lt-or-ge}
 use Rattle.text.specs.Text.{digitText, digits, placesBy, placesIn, places, decimal}
 
-pow-pos : (i : ℕ) → 0 < 10 ^ i
+pub pow-pos : (i : ℕ) → 0 < 10 ^ i
 pow-pos zero = omega arith
 pow-pos (suc i) = omega (arith, pow-pos i, pow-succ' 10 i)
 
@@ -70,6 +70,44 @@ pub places-≤ : (v n : ℕ) → v < 10 ^ suc n → places v ≤ suc n
 unfolding places
 places-≤ v n h = placesIn-≤ n v v h
 
+-- no fewer would do, and none of them is a zero in front
+placesIn-high : (times v : ℕ) → v ≤ times → v < 10 ^ placesIn times v
+placesIn-high zero v t = rw (placesIn-none v) (omega arith)
+placesIn-high (suc times) v t =
+    ⊎-elim (λ (l : v < 10). rw (placesIn-one (suc times) v l) (omega arith))
+    (λ (l : 10 ≤ v).
+    let h : v / 10 < 10 ^ placesIn times (v / 10) = placesIn-high times (v / 10) (omega arith) in
+    rw (placesIn-more times v l) (omega (arith, pow-succ' 10 (placesIn times (v / 10)))))
+    (lt-or-ge v 10)
+
+placesIn-low : (i times v : ℕ) → placesIn times v ≡ suc (suc i) → 10 ^ suc i ≤ v
+placesIn-low i zero v e = absurd (omega (arith, placesIn-none v))
+placesIn-low zero (suc times) v e = ⊎-elim (λ (l : v < 10). absurd (omega (arith, placesIn-one (suc times) v l))) (λ (l : 10 ≤ v). omega arith) (lt-or-ge v 10)
+placesIn-low (suc i) (suc times) v e =
+    ⊎-elim (λ (l : v < 10). absurd (omega (arith, placesIn-one (suc times) v l)))
+    (λ (l : 10 ≤ v).
+    let h : 10 ^ suc i ≤ v / 10 = placesIn-low i times (v / 10) (omega (arith, placesIn-more times v l)) in
+    omega (arith, pow-succ' 10 (suc i)))
+    (lt-or-ge v 10)
+
+placesIn-some : (times v : ℕ) → 0 < placesIn times v
+placesIn-some zero v = omega (arith, placesIn-none v)
+placesIn-some (suc times) v =
+    ⊎-elim (λ (l : v < 10). omega (arith, placesIn-one (suc times) v l)) (λ (l : 10 ≤ v). omega (arith, placesIn-more times v l)) (lt-or-ge v 10)
+
+module _ (v : ℕ) where
+  pub places-high : v < 10 ^ places v
+  unfolding places
+  places-high = placesIn-high v v (omega arith)
+
+  pub places-low : (i : ℕ) → places v ≡ suc (suc i) → 10 ^ suc i ≤ v
+  unfolding places
+  places-low i e = placesIn-low i v v e
+
+  pub places-some : 0 < places v
+  unfolding places
+  places-some = placesIn-some v v
+
 -- numbers of 8, 16 and 64 bits
 pub places-8 : (v : ℕ) → v < 256 → places v ≤ 3
 places-8 v h = places-≤ v 2 (omega arith)
@@ -103,7 +141,7 @@ module _ (base v j rest : ℕ) (e : rest ≡ v / base ^ j) where
   unfolding digits
   digit-more = rw e
 
-  rest-more : rest / base ≡ v / base ^ suc j
+  pub rest-more : rest / base ≡ v / base ^ suc j
   rest-more = rw (e, div-div-eq-div-mul v (base ^ j) base, mul-comm (base ^ j) base, pow-succ' base j)
 
 pub rest-all : (base v j : ℕ) → j ≡ 0 → v ≡ v / base ^ j

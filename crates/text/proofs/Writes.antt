@@ -1,12 +1,11 @@
 -- Laws of text put into a list: byte by byte, digit by digit, and one text after another.
-use mathlib.Core.Path.{_≡_, refl, ap, sym, _∙_}
-use mathlib.Core.List.{List, [], _∷_, _++_, append-assoc}
+use mathlib.Core.Path.{_≡_, refl, sym, _∙_}
+use mathlib.Core.List.{List, _++_, append-assoc}
 use Prim.Native.Nat.{ℕ, suc, _+_, _-_, _/_, _%_, _^_, _≤_, _<_}
-use native.Mathlib.Nat.{add-zero}
 use native.Mathlib.Numerals.{add-one}
 use native.Mathlib.Omega.{arith}
-use lib.ListN.{length, take, drop, getD, set, length-append, length-take, take-append-drop}
-use lib.Seq.{take-suc, set-at, append-snoc, length-take-le, take-at, drop-append-add, drop-drop, take-length, paste, paste-zero, paste-suc}
+use lib.ListN.{length, take, drop, getD, set, length-append}
+use lib.Seq.{take-length, paste, paste-zero, paste-suc}
 use Rattle.laws.specs.Bytes.{splice}
 use Rattle.laws.proofs.Writes.{splice-none, splice-cons, splice-then}
 use Rattle.text.specs.Text.{digitText, digits}

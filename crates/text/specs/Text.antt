@@ -1,10 +1,11 @@
 -- 01 "The replay program": the text of an answer, byte by byte.
 use mathlib.Core.List.{List, [], _∷_, _++_}
 use mathlib.Core.Bool.{Bool, true, false}
-use Prim.Native.Nat.{ℕ, zero, suc, _+_, _/_, _%_, _^_}
+use Prim.Native.Nat.{ℕ, zero, suc, _+_, _/_, _%_, _^_, _<_}
 use lib.Dec.{ltb}
 use Rattle.laws.specs.Choice.{pick}
 use Rattle.laws.specs.Bytes.{fits}
+use Rattle.text.specs.Words.{space, newline, okWord, waitWord, movedWord, noWord, readWord, doneWord, sameWord, turnsWord}
 use Rattle.tracker.specs.Answer.{Said, ok, wait, moved, read, done, same, no}
 
 -- a digit's byte, `0` to `9` and `a` to `f`
@@ -40,21 +41,35 @@ hex v = digits 16 8 v
 
 -- ` turns K`
 unfoldable pub turns : ℕ → List ℕ
-turns k = 32 ∷ 116 ∷ 117 ∷ 114 ∷ 110 ∷ 115 ∷ 32 ∷ decimal k
+turns k = turnsWord ++ decimal k
 
 -- "`ok`, `wait`, `moved`, `read V turns K`, `done turns K`, `same turns K` or `no C`"
 unfoldable pub saidText : Said → List ℕ
-saidText ok = 111 ∷ 107 ∷ []
-saidText wait = 119 ∷ 97 ∷ 105 ∷ 116 ∷ []
-saidText moved = 109 ∷ 111 ∷ 118 ∷ 101 ∷ 100 ∷ []
-saidText (read v k) = 114 ∷ 101 ∷ 97 ∷ 100 ∷ 32 ∷ (hex v ++ turns k)
-saidText (done k) = 100 ∷ 111 ∷ 110 ∷ 101 ∷ turns k
-saidText (same k) = 115 ∷ 97 ∷ 109 ∷ 101 ∷ turns k
-saidText (no c) = 110 ∷ 111 ∷ 32 ∷ decimal c
+saidText ok = okWord
+saidText wait = waitWord
+saidText moved = movedWord
+saidText (read v k) = readWord ++ (hex v ++ turns k)
+saidText (done k) = doneWord ++ turns k
+saidText (same k) = sameWord ++ turns k
+saidText (no c) = noWord ++ decimal c
 
--- "Output: line number, space, then" what is said, and a newline
+-- the numbers that answers carry: turns stay at 65,535, refusals are bytes
+abbrev pub Narrow : Said → Type 0
+Narrow ok = Unit {0}
+Narrow wait = Unit {0}
+Narrow moved = Unit {0}
+Narrow (read v k) = k < 65536
+Narrow (done k) = k < 65536
+Narrow (same k) = k < 65536
+Narrow (no c) = c < 256
+
+-- "Output: line number, space, then" what is said
+unfoldable pub answerLine : ℕ → Said → List ℕ
+answerLine n said = decimal n ++ (space ++ saidText said)
+
+-- with its newline
 unfoldable pub lineText : ℕ → Said → List ℕ
-lineText k said = decimal k ++ (32 ∷ (saidText said ++ (10 ∷ [])))
+lineText n said = answerLine n said ++ newline
 
 -- the bytes that are kept free for a line; none is longer
 abbrev pub most : ℕ

@@ -1,0 +1,99 @@
+// What drift writes: the places that drifted, the lines that are none of replay, the five numbers.
+use crate::bytes;
+use crate::side;
+use crate::side::Side;
+use measure::Pair;
+use measure::Tally;
+
+// The output is written out before a place that could need more than is left: two file names and three lines.
+const FULL: usize = 57000;
+
+fn put_decimal(out: &mut [u8], at: usize, n: u64) -> usize {
+    let mut text = [0u8; 20];
+    let k = io::decimal(n, &mut text);
+    bytes::put_all(out, at, &text[..k])
+}
+
+// Writes out what was put, and answers 0, the place to go on at.
+pub fn flush(out: &[u8], at: usize) -> usize {
+    if at <= out.len() {
+        io::write_all(1, &out[..at]);
+    }
+    0
+}
+
+pub fn flush_if(out: &[u8], at: usize) -> usize {
+    if FULL < at {
+        return flush(out, at);
+    }
+    at
+}
+
+// Names a line that is no line of replay.
+pub fn say_stray(
+    x: Side,
+    window: &[u8],
+    name: &[u8],
+    number: u64,
+    out: &mut [u8],
+    at: usize,
+) -> usize {
+    if !x.line {
+        return at;
+    }
+    if side::is_line(x, window) {
+        return at;
+    }
+    let p = bytes::put_all(out, at, name);
+    let q = bytes::put_all(out, p, b" line ");
+    let r = put_decimal(out, q, number);
+    bytes::put_all(out, r, b" is no line of replay\n")
+}
+
+fn wide(x: u32) -> u64 {
+    x as u64
+}
+
+// An ending with another turn count.
+pub fn say_drift(p: Pair, number: u64, out: &mut [u8], at: usize) -> usize {
+    if p.drift() == 0 {
+        return at;
+    }
+    let q = put_decimal(out, at, number);
+    let r = bytes::put_all(out, q, b" turns ");
+    let s = put_decimal(out, r, wide(p.recorded));
+    let t = bytes::put_all(out, s, b" now ");
+    let u = put_decimal(out, t, wide(p.replayed));
+    bytes::put(out, u, b'\n')
+}
+
+fn say_number(word: &[u8], n: u64, out: &mut [u8], at: usize) -> usize {
+    let p = bytes::put_all(out, at, word);
+    put_decimal(out, p, n)
+}
+
+// The farthest line, which has no line number where nothing drifted.
+fn say_farthest(t: Tally, out: &mut [u8], at: usize) -> usize {
+    let p = say_number(b"\nfarthest ", t.farthest, out, at);
+    if t.farthest == 0 {
+        return p;
+    }
+    say_number(b" line ", t.line, out, p)
+}
+
+// The five lines.
+pub fn say_tally(t: Tally, out: &mut [u8], at: usize) -> usize {
+    let p = say_number(b"endings ", t.endings, out, at);
+    let q = say_number(b"\ndrifted ", t.drifted, out, p);
+    let r = say_farthest(t, out, q);
+    let s = say_number(b"\ntotal ", t.total, out, r);
+    let u = say_number(b"\nchanged ", t.changed, out, s);
+    bytes::put(out, u, b'\n')
+}
+
+// A sentence on standard error.
+pub fn complain(name: &[u8]) {
+    io::write_all(2, b"drift: the file ");
+    io::write_all(2, name);
+    io::write_all(2, b" cannot be read\n");
+}

@@ -1,0 +1,15 @@
+-- `measure::other_pair` meets its contract.
+use Rattle.measure.specs.Pair.{otherPair}
+use borrow.Author.Needs.{needs}
+use Rattle.measure.proofs.other_pair.Statement.{statement}
+use Rattle.measure.proofs.other_pair.Tie as tie
+
+same-bytes-requires : tie.Need-same-bytes-requires
+same-bytes-requires c κs = search needs
+
+returns : tie.Need-returns
+unfolding otherPair
+returns c = rw (c .same-bytes .ensures)
+
+pub other-pair-spec : {M : Type 1} → statement M
+other-pair-spec = tie.close (tie.spec same-bytes-requires returns)
