@@ -50,8 +50,8 @@ mod plain {
         bytes.iter().fold(0, |all, b| all | b) == 0
     }
 
-    /// Both sums are far below 2^32 over 254 words, so they are reduced once.
-    fn check(block: &[u8; IMAGE_BLOCK]) -> u32 {
+    /// Version 1: both sums are far below 2^32 over 254 words, so they are reduced once.
+    fn old_check(block: &[u8; IMAGE_BLOCK]) -> u32 {
         let (mut a, mut b) = (1u32, 0u32);
         for word in block[..508].chunks_exact(2) {
             a += u16::from_le_bytes([word[0], word[1]]) as u32;
@@ -60,8 +60,26 @@ mod plain {
         a % 65_535 | (b % 65_535) << 16
     }
 
+    /// Every other version: both sums wrap.
+    fn new_check(block: &[u8; IMAGE_BLOCK]) -> u32 {
+        let (mut a, mut b) = (1u16, 0u16);
+        for word in block[..508].chunks_exact(2) {
+            a = a.wrapping_add(u16::from_le_bytes([word[0], word[1]]));
+            b = b.wrapping_add(a);
+        }
+        a as u32 | (b as u32) << 16
+    }
+
+    fn check(version: u16, block: &[u8; IMAGE_BLOCK]) -> u32 {
+        if version == 1 {
+            old_check(block)
+        } else {
+            new_check(block)
+        }
+    }
+
     fn seal(block: &mut [u8; IMAGE_BLOCK]) {
-        let sums = check(block);
+        let sums = new_check(block);
         block[508..].copy_from_slice(&sums.to_le_bytes());
     }
 
@@ -70,18 +88,19 @@ mod plain {
             return 10;
         }
         let last = image.len() / IMAGE_BLOCK - 1;
+        let version = number16(image, 6);
         let n = number32(image, 8);
         let mut right = (1..=262_144).contains(&n);
         let (mut least, mut records) = (0u32, 0u32);
         for (i, block) in image.chunks_exact(IMAGE_BLOCK).enumerate() {
             let block: &[u8; IMAGE_BLOCK] = block.try_into().unwrap();
-            if check(block) != number32(block, 508) {
+            if check(version, block) != number32(block, 508) {
                 return 10;
             }
             let (kind, count) = (number16(block, 4), number16(block, 6) as usize);
             right &= number32(block, 0) as usize == i;
             if i == 0 {
-                right &= kind == 1 && count == 1 && empty(&block[16..508]);
+                right &= kind == 1 && (1..=2).contains(&count) && empty(&block[16..508]);
                 continue;
             }
             right &= kind == 2 && (count == 7 || i == last && (1..=7).contains(&count));
@@ -131,7 +150,7 @@ mod plain {
         let output = &mut output[..IMAGE_BLOCK * blocks];
         let (head, rest) = output.split_at_mut(IMAGE_BLOCK);
         head.fill(0);
-        (head[4], head[6]) = (1, 1);
+        (head[4], head[6]) = (1, 2);
         head[8..12].copy_from_slice(&(n as u32).to_le_bytes());
         head[12..16].copy_from_slice(&(m as u32).to_le_bytes());
         seal(head.try_into().unwrap());

@@ -37,9 +37,10 @@ extern "C" {
  */
 uint64_t tag_plain_read(uint64_t n, const uint8_t *memory, size_t length, uint64_t group);
 
-/* The test of an archive image: 0 if it is accepted, that is, if it is the image of some
- * true memory; else
- *   10   length is 0 or not a multiple of 512, or a block's check is wrong
+/* The test of an archive image of version 1 or 2, as its head says: 0 if it is accepted,
+ * that is, if it is the image of some true memory; else
+ *   10   length is 0 or not a multiple of 512, or a block's check is wrong: both sums
+ *        modulo 65535 in version 1, modulo 65536 where the head has any other version
  *   11   all checks are right and another rule of the image is broken
  */
 uint64_t tag_image_test(const uint8_t *image, size_t length);

@@ -134,9 +134,19 @@ fn main() {
 
     // Damaged images. Restored if accepted: into a memory as long as they say.
     let mut images = [0u64; 4];
-    for (n, m) in [(2, 0), (1, 1), (512, 2), (40, 7), (8, 8), (513, 15)] {
+    for (version, n, m) in [
+        (2, 2, 0),
+        (2, 1, 1),
+        (2, 512, 2),
+        (2, 40, 7),
+        (2, 8, 8),
+        (2, 513, 15),
+        (1, 1, 1),
+        (1, 40, 7),
+        (1, 8, 8),
+    ] {
         let memory = draw::true_memory_of(&mut random, n, m);
-        let image = model::encode(n, &model::records_of(n, &memory));
+        let image = model::encode_as(version, n, &model::records_of(n, &memory));
         let mut dirty = Random(seed ^ n);
         draw::damages(&mut random, &image, |damaged| {
             let said = match damaged.len() {

@@ -131,13 +131,14 @@ static void largest(void)
     free(m);
 }
 
-/* Make the check of one block right. */
-static void seal(uint8_t *block)
+/* Make the check of one block right: modulo 65535 in version 1, else modulo 65536. */
+static void seal(unsigned version, uint8_t *block)
 {
+    const uint32_t modulus = version == 1 ? 65535 : 65536;
     uint32_t a = 1, b = 0;
     for (int at = 0; at < 508; at += 2) {
-        a = (a + block[at] + 256u * block[at + 1]) % 65535;
-        b = (b + a) % 65535;
+        a = (a + block[at] + 256u * block[at + 1]) % modulus;
+        b = (b + a) % modulus;
     }
     block[508] = a & 255, block[509] = a >> 8;
     block[510] = b & 255, block[511] = b >> 8;
@@ -149,16 +150,23 @@ static uint64_t changed(const uint8_t *image, size_t length, size_t at, uint8_t 
     uint8_t copy[1024];
     memcpy(copy, image, length);
     copy[at] = value;
-    seal(copy + at / 512 * 512);
+    seal(copy[6] + 256u * copy[7], copy + at / 512 * 512);
     return tag_image_test(copy, length);
 }
 
 static void images(void)
 {
-    /* The head for n = 2, m = 0, its check as the paper has it. */
+    /* The heads for n = 2, m = 0, of version 1 and of version 2, their checks as the papers have them. */
     uint8_t image[1536] = {0, 0, 0, 0, 1, 0, 1, 0, 2};
     image[508] = 0x05, image[509] = 0x00, image[510] = 0xe9, image[511] = 0x04;
     SAME(tag_image_test(image, 512), 0);
+    image[6] = 2; /* with the check of the old rule */
+    SAME(tag_image_test(image, 512), TAG_IMAGE_CHECK);
+    image[508] = 0x06, image[509] = 0x00, image[510] = 0xe4, image[511] = 0x05;
+    SAME(tag_image_test(image, 512), 0);
+    image[6] = 1; /* with the check of the new rule */
+    SAME(tag_image_test(image, 512), TAG_IMAGE_CHECK);
+    image[6] = 2;
     SAME(tag_image_test(image, 0), TAG_IMAGE_CHECK);
     SAME(tag_image_test(image, 511), TAG_IMAGE_CHECK);
     SAME(tag_image_test(image, 513), TAG_IMAGE_CHECK);
@@ -172,21 +180,24 @@ static void images(void)
     SAME(changed(image, 512, 11, 1), TAG_IMAGE_RULE);
     SAME(changed(image, 512, 0, 1), TAG_IMAGE_RULE);   /* number */
     SAME(changed(image, 512, 4, 2), TAG_IMAGE_RULE);   /* kind */
-    SAME(changed(image, 512, 6, 2), TAG_IMAGE_RULE);   /* version */
+    SAME(changed(image, 512, 6, 1), 0);                /* version */
+    SAME(changed(image, 512, 6, 0), TAG_IMAGE_RULE);
+    SAME(changed(image, 512, 6, 3), TAG_IMAGE_RULE);
+    SAME(changed(image, 512, 7, 1), TAG_IMAGE_RULE);
     SAME(changed(image, 512, 12, 1), TAG_IMAGE_RULE);  /* m */
     SAME(changed(image, 512, 16, 1), TAG_IMAGE_RULE);  /* zeros after */
     SAME(changed(image, 512, 507, 1), TAG_IMAGE_RULE);
 
     /* The same with leaf 1 recorded, its last byte 3. */
     image[12] = 1;
-    seal(image);
+    seal(2, image);
     uint8_t *block = image + 512;
     block[0] = 1, block[4] = 2, block[6] = 1, block[8] = 1, block[75] = 3;
-    seal(block);
+    seal(2, block);
     SAME(tag_image_test(image, 1024), 0);
     SAME(tag_image_test(image, 512), TAG_IMAGE_RULE);  /* m is 1 and there is no record */
     SAME(tag_image_test(image, 1023), TAG_IMAGE_CHECK);
-    SAME(tag_image_test(block, 512), TAG_IMAGE_RULE);
+    SAME(tag_image_test(block, 512), TAG_IMAGE_CHECK); /* its count is read as version 1, the old rule */
     SAME(changed(image, 1024, 512 + 8, 0), 0);               /* leaf 0 */
     SAME(changed(image, 1024, 512 + 8, 2), TAG_IMAGE_RULE);  /* leaf 2 of 2 */
     SAME(changed(image, 1024, 512 + 75, 0), TAG_IMAGE_RULE); /* an empty record */

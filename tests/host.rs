@@ -101,15 +101,18 @@ fn images(driver: &mut Driver, random: &mut Random) -> [u64; 3] {
             let mut image = vec![0; blocks * model::IMAGE_BLOCK];
             random.fill(&mut image);
             one(&image);
-            image.chunks_exact_mut(model::IMAGE_BLOCK).for_each(model::seal);
+            let version = if blocks == 0 { 2 } else { model::version(&image) };
+            image.chunks_exact_mut(model::IMAGE_BLOCK).for_each(|b| model::seal(version, b));
             one(&image);
         }
     }
     // Every damage, for images of one to four blocks.
     for (n, m) in [(2, 0), (1, 1), (512, 2), (700, 7), (8, 8), (262_144, 14), (513, 15)] {
         let memory = draw::true_memory_of(random, n, m);
-        let image = model::encode(n, &model::records_of(n, &memory));
-        draw::damages(random, &image, &mut one);
+        for version in [1, 2] {
+            let image = model::encode_as(version, n, &model::records_of(n, &memory));
+            draw::damages(random, &image, &mut one);
+        }
     }
     // The largest image, whole and with one wrong bit in its last block.
     let mut image = {

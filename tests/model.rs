@@ -566,30 +566,49 @@ pub fn number32(block: &[u8], at: usize) -> u32 {
     u32::from_le_bytes(block[at..at + 4].try_into().unwrap())
 }
 
+/// The version in the head: bytes 6 to 7 of block 0.
+pub fn version(image: &[u8]) -> u16 {
+    number16(image, 6)
+}
+
+/// Version 1 takes both sums modulo 65,535, every other modulo 65,536.
+fn modulus(version: u16) -> u32 {
+    if version == 1 {
+        65_535
+    } else {
+        65_536
+    }
+}
+
 /// Check, over the 254 two-byte words of bytes 0 to 507. Stored: a, then b.
-pub fn check(block: &[u8]) -> [u8; 4] {
+pub fn check(version: u16, block: &[u8]) -> [u8; 4] {
     let (mut a, mut b) = (1u32, 0u32);
     for at in (0..CHECK_AT).step_by(2) {
-        a = (a + number16(block, at) as u32) % 65_535;
-        b = (b + a) % 65_535;
+        a = (a + number16(block, at) as u32) % modulus(version);
+        b = (b + a) % modulus(version);
     }
     let (a, b) = ((a as u16).to_le_bytes(), (b as u16).to_le_bytes());
     [a[0], a[1], b[0], b[1]]
 }
 
-pub fn seal(block: &mut [u8]) {
-    let sums = check(block);
+pub fn seal(version: u16, block: &mut [u8]) {
+    let sums = check(version, block);
     block[CHECK_AT..].copy_from_slice(&sums);
 }
 
-/// The image of these records: block 0, then 7 records to a block.
+/// The image of these records: what is written, version 2.
 pub fn encode(n: u64, records: &[Record]) -> Vec<u8> {
+    encode_as(2, n, records)
+}
+
+/// The image of these records in a version: block 0, then 7 records to a block.
+pub fn encode_as(version: u16, n: u64, records: &[Record]) -> Vec<u8> {
     let mut head = vec![0; IMAGE_BLOCK];
     head[4..6].copy_from_slice(&1u16.to_le_bytes());
-    head[6..8].copy_from_slice(&1u16.to_le_bytes());
+    head[6..8].copy_from_slice(&version.to_le_bytes());
     head[8..12].copy_from_slice(&(n as u32).to_le_bytes());
     head[12..16].copy_from_slice(&(records.len() as u32).to_le_bytes());
-    seal(&mut head);
+    seal(version, &mut head);
     let mut image = head;
     for (i, seven) in records.chunks(RECORDS).enumerate() {
         let mut block = [0; IMAGE_BLOCK];
@@ -601,7 +620,7 @@ pub fn encode(n: u64, records: &[Record]) -> Vec<u8> {
             block[at..at + 4].copy_from_slice(&record.leaf.to_le_bytes());
             block[at + 4..at + RECORD].copy_from_slice(&record.bytes);
         }
-        seal(&mut block);
+        seal(version, &mut block);
         image.extend_from_slice(&block);
     }
     image
@@ -667,7 +686,7 @@ pub fn image_test(image: &[u8]) -> u64 {
     if image.is_empty() || image.len() % IMAGE_BLOCK != 0 {
         return 10;
     }
-    if image.chunks(IMAGE_BLOCK).any(|block| block[CHECK_AT..] != check(block)) {
+    if image.chunks(IMAGE_BLOCK).any(|block| block[CHECK_AT..] != check(version(image), block)) {
         return 10;
     }
     if !(blocks_right(image) && records_right(image)) {
@@ -683,7 +702,7 @@ fn blocks_right(image: &[u8]) -> bool {
         let (kind, count) = (number16(block, 4), number16(block, 6) as usize);
         number32(block, 0) as usize == i
             && if i == 0 {
-                kind == 1 && count == 1 && !some_byte(&block[16..CHECK_AT])
+                kind == 1 && (1..=2).contains(&count) && !some_byte(&block[16..CHECK_AT])
             } else {
                 kind == 2
                     && (count == RECORDS || i == last && (1..=RECORDS).contains(&count))
@@ -944,8 +963,9 @@ pub mod draw {
     fn resealed(image: &[u8], change: impl FnOnce(&mut [u8])) -> Vec<u8> {
         let mut damaged = image.to_vec();
         change(&mut damaged);
+        let version = if damaged.len() < 8 { 2 } else { version(&damaged) };
         for block in damaged.chunks_exact_mut(IMAGE_BLOCK) {
-            seal(block);
+            seal(version, block);
         }
         damaged
     }
@@ -958,7 +978,8 @@ pub mod draw {
             damaged[bit / 8] ^= flip;
             each(&damaged);
             let block = bit / 8 / IMAGE_BLOCK * IMAGE_BLOCK;
-            seal(&mut damaged[block..block + IMAGE_BLOCK]);
+            let version = version(&damaged);
+            seal(version, &mut damaged[block..block + IMAGE_BLOCK]);
             each(&damaged);
             damaged[block..block + IMAGE_BLOCK].copy_from_slice(&image[block..block + IMAGE_BLOCK]);
         }
@@ -1086,7 +1107,7 @@ pub mod draw {
             without.drain(IMAGE_BLOCK * i..IMAGE_BLOCK * (i + 1));
             each(&without);
             each(&resealed(&without, renumber));
-            // Zero and 65,535 are the same in both sums: the check stays right.
+            // Zero and 65,535 are the same in both sums of version 1: the check stays right.
             for at in (0..CHECK_AT).step_by(2) {
                 let at = IMAGE_BLOCK * i + at;
                 let other = match number16(image, at) {
@@ -1116,11 +1137,12 @@ pub mod draw {
             for sum in 0..2 {
                 let (word, stored) = (at - 2, at + 2 * sum);
                 let mut damaged = image.to_vec();
-                let value = (number16(image, word) as u32 + 65_535
+                let version = version(image);
+                let value = (number16(image, word) as u32 + modulus(version)
                     - number16(image, stored) as u32)
-                    % 65_535;
+                    % modulus(version);
                 damaged[word..at].copy_from_slice(&(value as u16).to_le_bytes());
-                seal(&mut damaged[IMAGE_BLOCK * i..IMAGE_BLOCK * (i + 1)]);
+                seal(version, &mut damaged[IMAGE_BLOCK * i..IMAGE_BLOCK * (i + 1)]);
                 assert_eq!(number16(&damaged, stored), 0);
                 each(&damaged);
                 damaged[stored..stored + 2].fill(0xff);

@@ -1,5 +1,5 @@
 -- An accepted image is the encoding of the records that are read from it: each of its blocks is the block that writing makes of its fields.
-use mathlib.Core.Path.{_≡_, refl, ap, sym, _∙_}
+use mathlib.Core.Path.{_≡_, refl, ap, sym, _∙_, subst}
 use mathlib.Core.List.{List, _++_, append-assoc, append-nil}
 use mathlib.Core.Bool.{Bool, true, false}
 use mathlib.Core.Logic.{⊎-elim}
@@ -176,6 +176,15 @@ module _ (F : Form) (image : List ℕ) (A : Accepted F image) where
 
   pub in-limits : inLimits (leavesIn image) ≡ true
   in-limits = head-limits F (imageBlock image 0) head-ok
+
+  -- its records are bytes, where it is
+  pub records-bytes : Bytes image → (p : ℕ) → p < length rs → Bytes (listed rs p .content)
+  records-bytes B p l =
+      let f : length rs ≡ m = length-recordsTo (recordAt image) m in
+      let w : 1 + p / 7 < W = omega (arith, accepted-fits F image A) in
+      let lb : length (imageBlock image (1 + p / 7)) ≡ 512 = length-part′ image (512 * (1 + p / 7)) 512 (omega (arith, long)) in
+      subst (λ (r : Record). Bytes (r .content)) (sym (recordsTo-at (recordAt image) m p (omega arith)))
+      (Bytes-part (imageBlock image (1 + p / 7)) (12 + 68 * (p % 7)) 64 (omega arith) (Bytes-part image (512 * (1 + p / 7)) 512 (omega (arith, long)) B))
 
   -- and its records are good
   pub good-records : Good (leavesIn image) rs

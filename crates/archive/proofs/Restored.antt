@@ -3,19 +3,21 @@ use mathlib.Core.Path.{_≡_, ap, sym, _∙_, subst}
 use mathlib.Core.List.{List, [], _∷_, _++_}
 use mathlib.Core.Bool.{true, false, not}
 use mathlib.Core.Logic.{_⊎_, inl, inr, ⊎-elim}
-use Prim.Native.Nat.{ℕ, zero, suc, _+_, _*_, _≤_, _<_}
+use Prim.Native.Nat.{ℕ, zero, suc, _+_, _*_, _-_, _≤_, _<_}
 use native.Mathlib.Nat.{eq-or-lt-of-le, le-of-suc-le-suc, not-suc-le-zero}
 use native.Mathlib.Numerals.{add-one}
 use native.Mathlib.Omega.{arith}
 use lib.Dec.{eqb}
 use lib.ListN.{length, take, getD, set, replicate, length-set, length-replicate, getD-replicate, List·getD-eq-default}
-use lib.Seq.{take-all, take-suc, getD-set-other, ext-getD}
+use lib.Seq.{take-all, take-suc, getD-set-same, getD-set-other, ext-getD}
 use borrow.Author.Tests.{eqb-true, eqb-false, le-leb, lt-ltb}
 use Rattle.laws.specs.Choice.{no}
 use Rattle.laws.specs.Bits.{withBit}
-use Rattle.laws.specs.Bytes.{part, splice}
+use Rattle.laws.specs.Bytes.{part, splice, Bytes}
+use Rattle.laws.proofs.Bits.{withBit-lt}
+use Rattle.laws.proofs.Writes.{getD-replicate as getD-zeros}
 use Rattle.laws.proofs.Scan.{all-is, all-at}
-use Rattle.laws.proofs.Splice.{lt-or-ge, length-splice, getD-after, part-same, part-other, getD-part, length-part′}
+use Rattle.laws.proofs.Splice.{lt-or-ge, length-splice, getD-before, getD-in, getD-after, part-same, part-other, getD-part, length-part′}
 use Rattle.laws.proofs.Put.{putW-fits}
 use Rattle.geometry.specs.TagMemory.{memoryLength, mapPlace, mapBitOf}
 use Rattle.geometry.proofs.Places.{mapPlace-is, mapPlace-same, mapBitOf-lt, bit-inside, leaf-has-bit}
@@ -57,6 +59,10 @@ module _ (n : ℕ) (mem : List ℕ) (long : length mem ≡ memoryLength n) (t : 
 
   pub true-records-good : Good n (recordsOf n mem)
   true-records-good = record { sized = records-sized n mem (omega arith); each = all-is (goodRecord n 0 (listed (recordsOf n mem))) (length (recordsOf n mem)) good-at }
+
+zeros-bytes : (k : ℕ) → Bytes (replicate k 0)
+unfolding Bytes
+zeros-bytes k i = rw (getD-zeros {A = ℕ} k i 0) (omega arith)
 
 -- a part before a store
 part-set : (l : List ℕ) (a v c w : ℕ) → c + w ≤ a → c + w ≤ length l → part (set l a v) c w ≡ part l c w
@@ -126,6 +132,35 @@ module _ (n : ℕ) (mem : List ℕ) (r : Record) (long : length mem ≡ memoryLe
       beside : (k l : ℕ) → (k ≡ l → ⊥) → (64 * k + 64 ≤ 64 * l) ⊎ (64 * l + length (r .content) ≤ 64 * k)
       beside k l ne = ⊎-elim (λ (q : k < l). inl (omega arith)) (λ (q : l ≤ k). ⊎-elim (λ (e : l ≡ k). absurd (ne (sym e))) (λ (s : l < k). inr (omega arith)) (eq-or-lt-of-le q)) (lt-or-ge k l)
 
+  -- bytes stay bytes
+  leafs-bytes : Bytes mem → Bytes (r .content) → (i : ℕ) → getD leafs i 0 < 256
+  unfolding Bytes
+  leafs-bytes B C i =
+      ⊎-elim
+      (λ (q : i < 64 * r .leaf). rw (getD-before mem (64 * r .leaf) (r .content) room i q) (B i))
+      (λ (q : 64 * r .leaf ≤ i).
+      ⊎-elim
+      (λ (s : i < 64 * r .leaf + 64).
+      let e : 64 * r .leaf + (i - 64 * r .leaf) ≡ i = omega arith in
+      let f : getD leafs i 0 ≡ getD (r .content) (i - 64 * r .leaf) 0 = ap (λ (x : ℕ). getD leafs x 0) (sym e) ∙ getD-in mem (64 * r .leaf) (r .content) room (i - 64 * r .leaf) (omega arith) in
+      rw f (C (i - 64 * r .leaf)))
+      (λ (s : 64 * r .leaf + 64 ≤ i). rw (getD-after mem (64 * r .leaf) (r .content) room i (omega arith)) (B i))
+      (lt-or-ge i (64 * r .leaf + 64)))
+      (lt-or-ge i (64 * r .leaf))
+
+  pub put-bytes : Bytes mem → Bytes (r .content) → Bytes (putRecord n mem r)
+  unfolding Bytes
+  put-bytes B C i =
+      let a : ℕ = mapPlace n (r .leaf) in
+      let v : ℕ = withBit (getD leafs a 0) (mapBitOf (r .leaf)) 1 in
+      let f : getD (putRecord n mem r) i 0 ≡ getD (set leafs a v) i 0 = ap (λ (l : List ℕ). getD l i 0) set-is in
+      ⊎-elim
+      (λ (e : eqb i a ≡ true).
+      let g : getD (set leafs a v) i 0 ≡ v = ap (λ (x : ℕ). getD (set leafs a v) x 0) (eqb-true i a e) ∙ getD-set-same leafs a v 0 here in
+      rw (f, g) (withBit-lt (getD leafs a 0) (mapBitOf (r .leaf)) 8 1 (mapBitOf-lt (r .leaf)) (omega arith) (leafs-bytes B C a)))
+      (λ (e : eqb i a ≡ false). rw (f, getD-set-other leafs a i v 0 (eqb-false i a e)) (leafs-bytes B C i))
+      (true-or-false (eqb i a))
+
 -- the memory of good records
 module _ (n : ℕ) (rs : List Record) (G : Good n rs) where
   abbrev leaf : ℕ → ℕ
@@ -154,6 +189,11 @@ module _ (n : ℕ) (rs : List Record) (G : Good n rs) where
   unfolding filled
   length-filled zero h = length-replicate {A = ℕ} (memoryLength n) 0
   length-filled (suc p) h = length-put n (filled n rs p) (listed rs p) (length-filled p (omega arith)) (below-n p (omega arith)) (size-p p (omega arith))
+
+  pub bytes-filled : ((q : ℕ) → q < length rs → Bytes (listed rs q .content)) → (p : ℕ) → p ≤ length rs → Bytes (filled n rs p)
+  unfolding filled
+  bytes-filled C zero h = zeros-bytes (memoryLength n)
+  bytes-filled C (suc p) h = put-bytes n (filled n rs p) (listed rs p) (length-filled p (omega arith)) (below-n p (omega arith)) (size-p p (omega arith)) (bytes-filled C p (omega arith)) (C p (omega arith))
 
   -- the bits: 1 for the recorded leaves, 0 for the others
   pub bit-recorded : (p q : ℕ) → q < p → p ≤ length rs → leafBit n (filled n rs p) (leaf q) ≡ 1

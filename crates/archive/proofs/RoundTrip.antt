@@ -21,7 +21,7 @@ use Rattle.memory.specs.True.{blockAt, isTrue}
 use Rattle.memory.proofs.Truth.{leafBit-lt}
 use Rattle.memory.proofs.Reading.{plainGroup-0, plainGroup-1, refused-6}
 use Rattle.memory.proofs.Reading.{accepted as reading-accepted}
-use Rattle.image.specs.Encode.{Form, Fit, version1, Record, none, recordsBelow, recordsOf, encode, imageOf}
+use Rattle.image.specs.Encode.{Form, Fit, Record, none, recordsBelow, recordsOf, encode, imageOf}
 use Rattle.image.specs.Test.{formOf, leavesIn, recordedIn, recordAt, testBy, imageTest}
 use Rattle.image.specs.Calls.{writingRefusal, writingAnswer, written, recordsIn, memoryOf, restoringRefusal, restored}
 use Rattle.image.proofs.Rules.{Accepted, accepted}
@@ -29,8 +29,8 @@ use Rattle.image.proofs.Records.{Marked, marked, marked-is, below-at, length-be
 use Rattle.reader.specs.Read.{theEnd}
 use Rattle.archive.specs.Theorems.{listed, Good, TrueImage, readAfter}
 use Rattle.archive.proofs.Written.{encoding-accepted, leaves-are, recorded-are, record-is}
-use Rattle.archive.proofs.Encoded.{is-encoding, in-limits, good-records}
-use Rattle.archive.proofs.Restored.{true-records-good, length-memory, memory-true, memory-records, bit-recorded, bit-other, leaf-recorded}
+use Rattle.archive.proofs.Encoded.{is-encoding, in-limits, good-records, records-bytes}
+use Rattle.archive.proofs.Restored.{true-records-good, bytes-filled, length-memory, memory-true, memory-records, bit-recorded, bit-other, leaf-recorded}
 use Rattle.archive.proofs.Reading.{reads-content, read-record, read-end}
 
 -- memories with the same bits, and the same bytes under bit 1, read the same
@@ -73,6 +73,7 @@ module _ (F : Form) (fit : Fit F) where
         n = leavesIn image;
         mem = memoryOf (leavesIn image) (recordsIn image);
         limits = in-limits F image A;
+        is-bytes = bytes-filled (leavesIn image) (recordsIn image) G (records-bytes F image A B) (length (recordsIn image)) (omega arith);
         long = length-memory (leavesIn image) (recordsIn image) G;
         true-memory = memory-true (leavesIn image) (recordsIn image) G;
         same = ap (encode F (leavesIn image)) (memory-records (leavesIn image) (recordsIn image) G) ∙ sym (is-encoding F image A B);
@@ -195,8 +196,3 @@ module _ (F : Form) (fit : Fit F) where
 pub written-front : (n : ℕ) (mem output : List ℕ) → writingRefusal n mem (length output) ≡ 0 → take (writingAnswer n mem (length output)) (written n mem output) ≡ imageOf n mem
 unfolding writingAnswer written
 written-front n mem output e = rw e (take-splice output (imageOf n mem) (length (imageOf n mem)) refl)
-
--- version 1
-pub fit-1 : Fit version1
-unfolding version1
-fit-1 = record { some = omega arith; most = omega arith; number = omega arith; room = omega arith }

@@ -20,7 +20,7 @@ use Rattle.geometry.proofs.Limits.{inLimits-most}
 use Rattle.block.specs.Block.{allZero}
 use Rattle.sums.specs.Check.{checkOf, checkRight}
 use Rattle.image.specs.Encode.{Form, Fit, Sized, Record, none, recordBytes, recordsBytes, headFront, headRest, headOf, blockFront, blockWith, blockOf, next7, recordBlocks, blocksFor, encode}
-use Rattle.image.specs.Test.{wholeBlocks, imageBlock, numberOf, kindOf, versionOf, leavesOf, recordedOf, countOf, recordIn, recordAt, unusedZero, headSound, countRight, blockSound, soundAt, recordCount, lowest, goodAbove, goodRecord, leavesIn, recordedIn, checksRight, testBy, same}
+use Rattle.image.specs.Test.{wholeBlocks, imageBlock, numberOf, kindOf, versionOf, leavesOf, recordedOf, countOf, recordIn, recordAt, unusedZero, headSound, countRight, blockSound, soundAt, recordCount, lowest, goodAbove, goodRecord, versionIn, leavesIn, recordedIn, checksRight, testBy, same}
 use Rattle.laws.proofs.Parts.{piece, part-left, part-right, part-part, number, numberAt-part}
 use Rattle.image.proofs.Sound.{head-by, block-by, sound-head, sound-block, count-last, count-full, records-none, records-by}
 use Rattle.image.proofs.Rules.{is-accepted}
@@ -284,6 +284,9 @@ module _ (F : Form) (fit : Fit F) (n : ℕ) (rs : List Record) (hn : inLimits n 
   all-sound : (j : ℕ) → j < wholeBlocks image → soundAt F image j ≡ true
   all-sound zero l = sound-head F image 0 refl ∙ ap (headSound F) first-block ∙ head-sound F n m (omega (arith, most)) (omega (arith, most)) fit hn
   all-sound (suc j) l = later-sound j (omega (arith, whole))
+
+  pub version-is : versionIn image ≡ F .version
+  version-is = ap versionOf first-block ∙ head-version F n m (omega (arith, most)) (omega (arith, most)) fit
 
   pub leaves-are : leavesIn image ≡ n
   leaves-are = ap leavesOf first-block ∙ head-leaves F n m (omega (arith, most)) (omega (arith, most)) fit

@@ -21,7 +21,7 @@ use Rattle.rules.specs.Whole.{limits}
 use Rattle.rules.specs.Calls.{fresh, issueTests, issue}
 use Rattle.rules.proofs.Begun.{begun-whole}
 use Rattle.rules.proofs.Calls.{lengths-right, issue-accepted, issue-refused}
-use Rattle.archive.proofs.Facts.{head-check, blocks-0, blocks-7, blocks-8}
+use Rattle.archive.proofs.Facts.{head-check, old-head-check, blocks-0, blocks-7, blocks-8}
 use Rattle.edges.specs.Edges.{Edges}
 
 limits-over : (n t l : ℕ) → inLimits n ≡ false → limits n t l ≡ false
@@ -93,6 +93,7 @@ edges = record {
   length-513 = length-513;
   length-most = length-most;
   head-check = head-check;
+  old-head-check = old-head-check;
   blocks-0 = blocks-0;
   blocks-7 = blocks-7;
   blocks-8 = blocks-8;

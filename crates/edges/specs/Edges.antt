@@ -9,7 +9,7 @@ use Rattle.memory.specs.PlainReading.{plainReading}
 use Rattle.tracker.specs.declared.Access.{Access}
 use Rattle.tracker.specs.Answer.{ok, no}
 use Rattle.rules.specs.Calls.{fresh, issue}
-use Rattle.image.specs.Encode.{version1, Record, Sized, headOf, encode}
+use Rattle.image.specs.Encode.{version1, version2, Record, Sized, headOf, encode}
 
 pub record Edges : Type 0 where
   -- "n = 0 and 262,145 give 1; n = 1 and 262,144 pass"
@@ -31,9 +31,10 @@ pub record Edges : Type 0 where
   pub length-512 : memoryLength 512 ≡ 32832
   pub length-513 : memoryLength 513 ≡ 32960
   pub length-most : memoryLength 262144 ≡ 16809984
-  -- "the check of the head for n = 2, m = 0 is 05 00 E9 04"
-  pub head-check : part (headOf version1 2 0) 508 4 ≡ 0x05 ∷ 0x00 ∷ 0xE9 ∷ 0x04 ∷ []
+  -- 02: "The head of n = 2, m = 0 becomes 06 00 E4 05 in its check", and "the check of the head for n = 2, m = 0 is 05 00 E9 04" of version 1
+  pub head-check : part (headOf version2 2 0) 508 4 ≡ 0x06 ∷ 0x00 ∷ 0xE4 ∷ 0x05 ∷ []
+  pub old-head-check : part (headOf version1 2 0) 508 4 ≡ 0x05 ∷ 0x00 ∷ 0xE9 ∷ 0x04 ∷ []
   -- "m = 0 gives one block; m = 7 two; m = 8 three": the bytes of an image of so many records
-  pub blocks-0 : (n : ℕ) (rs : List Record) → Sized rs → length rs ≡ 0 → length (encode version1 n rs) ≡ 512
-  pub blocks-7 : (n : ℕ) (rs : List Record) → Sized rs → length rs ≡ 7 → length (encode version1 n rs) ≡ 1024
-  pub blocks-8 : (n : ℕ) (rs : List Record) → Sized rs → length rs ≡ 8 → length (encode version1 n rs) ≡ 1536
+  pub blocks-0 : (n : ℕ) (rs : List Record) → Sized rs → length rs ≡ 0 → length (encode version2 n rs) ≡ 512
+  pub blocks-7 : (n : ℕ) (rs : List Record) → Sized rs → length rs ≡ 7 → length (encode version2 n rs) ≡ 1024
+  pub blocks-8 : (n : ℕ) (rs : List Record) → Sized rs → length rs ≡ 8 → length (encode version2 n rs) ≡ 1536

@@ -6,7 +6,7 @@ use Prim.Native.Nat.{ℕ}
 use lib.ListN.{replicate}
 use Rattle.laws.specs.Bytes.{putW}
 use Rattle.geometry.proofs.One.{one}
-use Rattle.image.specs.Test.{formIn, headSound, countRight, blockSound, recordGood, leavesIn, recordedIn, imageTest}
+use Rattle.image.specs.Test.{formIn, headSound, countRight, blockSound, recordGood, versionIn, leavesIn, recordedIn, imageTest}
 
 pub head-sound-one : (block : List ℕ) {r s : Bool} → r ≡ headSound (formIn block) block → s ≡ headSound (formIn block) block → r ≡ s
 head-sound-one block = one
@@ -19,6 +19,9 @@ block-sound-one last j block = one
 
 pub record-good-one : (n low : ℕ) (block : List ℕ) (i : ℕ) {r s : Bool} → r ≡ recordGood n low block i → s ≡ recordGood n low block i → r ≡ s
 record-good-one n low block i = one
+
+pub version-in-one : (image : List ℕ) {r s : ℕ} → r ≡ versionIn image → s ≡ versionIn image → r ≡ s
+version-in-one image = one
 
 pub leaves-in-one : (image : List ℕ) {r s : ℕ} → r ≡ leavesIn image → s ≡ leavesIn image → r ≡ s
 leaves-in-one image = one

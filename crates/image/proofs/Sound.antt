@@ -4,19 +4,21 @@ use mathlib.Core.List.{List}
 use mathlib.Core.Bool.{Bool, true, false}
 use Prim.Native.Nat.{ℕ, _+_, _*_, _-_, _≤_, _<_}
 use native.Mathlib.Omega.{arith}
-use lib.ListN.{length}
+use lib.ListN.{length, replicate}
 use lib.Dec.{eqb, leb}
-use borrow.Author.Tests.{eq-eqb, ne-eqb, eqb-true, leb-true, le-leb, lt-leb}
+use borrow.Author.Tests.{eq-eqb, ne-eqb, eqb-true, eqb-false, leb-true, le-leb, lt-leb}
 use mathlib.Core.Logic.{⊎-elim}
 use Rattle.laws.specs.Bytes.{part}
-use Rattle.laws.specs.Choice.{both}
+use Rattle.laws.specs.Choice.{pick, both, either}
 use Rattle.laws.specs.Scan.{all}
 use Rattle.laws.proofs.Scan.{all-at}
 use Rattle.laws.proofs.Splice.{lt-or-ge, length-part′}
-use Rattle.laws.proofs.Choice.{both-when, both-left, both-right, both-false-left, both-false-right}
+use Rattle.laws.proofs.Choice.{true-or-false, both-when, both-left, both-right, both-false-left, both-false-right}
 use Rattle.geometry.specs.TagMemory.{inLimits}
-use Rattle.image.specs.Encode.{Form, version1, headRest}
-use Rattle.image.specs.Test.{same, wholeBlocks, imageBlock, numberOf, kindOf, versionOf, leavesOf, countOf, unusedZero, headSound, countRight, blockSound, soundAt, recordCount}
+use Rattle.sums.specs.Check.{modulusFor}
+use Rattle.sums.proofs.Words.{modulus-old, modulus-new}
+use Rattle.image.specs.Encode.{Form, Fit, version1, version2, formFor, headRest}
+use Rattle.image.specs.Test.{formIn, same, wholeBlocks, imageBlock, numberOf, kindOf, versionOf, leavesOf, countOf, unusedZero, headSound, countRight, blockSound, soundAt, recordCount}
 use Rattle.image.proofs.Rows.{same-zeros}
 
 -- counts
@@ -44,17 +46,69 @@ module _ (F : Form) (b : List ℕ) where
   unfolding headSound
   head-by h = both-when _ _ (eq-eqb _ _ h)
 
--- version 1
-pub modulus-1 : version1 .modulus ≡ 65535
+-- the two forms
+pub form-old : (v : ℕ) → v ≡ 1 → formFor v ≡ version1
+unfolding formFor
+form-old v e = rw (eq-eqb v 1 e)
+
+pub form-new : (v : ℕ) → (v ≡ 1 → ⊥) → formFor v ≡ version2
+unfolding formFor
+form-new v h = rw (ne-eqb v 1 h)
+
+modulus-1 : version1 .modulus ≡ 65535
 unfolding version1
 modulus-1 = refl
 
-pub head-by-1 : (b : List ℕ) → length b ≡ 512
-    → headSound version1 b ≡ both (eqb (numberOf b) 0) (both (eqb (kindOf b) 1) (both (eqb (versionOf b) 1) (both (inLimits (leavesOf b)) (unusedZero b 16))))
+pub modulus-2 : version2 .modulus ≡ 65536
+unfolding version2
+modulus-2 = refl
+
+pub form-modulus : (v : ℕ) → formFor v .modulus ≡ modulusFor v
+form-modulus v =
+    ⊎-elim
+    (λ (e : eqb v 1 ≡ true). let o : v ≡ 1 = eqb-true v 1 e in ap (λ (F : Form). F .modulus) (form-old v o) ∙ modulus-1 ∙ sym (modulus-old v o))
+    (λ (e : eqb v 1 ≡ false). let o : v ≡ 1 → ⊥ = eqb-false v 1 e in ap (λ (F : Form). F .modulus) (form-new v o) ∙ modulus-2 ∙ sym (modulus-new v o))
+    (true-or-false (eqb v 1))
+
+-- a head is of its own form exactly if it is of version 1 or 2
+version-by : (v : ℕ) (o : Bool) → o ≡ eqb v 1 → eqb v (pick o version1 version2 .version) ≡ either o (eqb v 2)
+unfolding version1 version2 either
+version-by v true e = sym e
+version-by v false e = refl
+
+form-version : (v : ℕ) → eqb v (formFor v .version) ≡ either (eqb v 1) (eqb v 2)
+unfolding formFor
+form-version v = version-by v (eqb v 1) refl
+
+rest-1 : headRest version1 ≡ replicate 492 0
 unfolding version1
-head-by-1 b h =
-    let z : same (part b 16 492) (headRest version1) ≡ unusedZero b 16 = same-zeros (part b 16 492) 492 (length-part′ b 16 492 (omega arith)) in
-    head-by version1 b h ∙ ap (λ (x : Bool). both (eqb (numberOf b) 0) (both (eqb (kindOf b) 1) (both (eqb (versionOf b) 1) (both (inLimits (leavesOf b)) x)))) z
+rest-1 = refl
+
+rest-2 : headRest version2 ≡ replicate 492 0
+unfolding version2
+rest-2 = refl
+
+form-rest : (v : ℕ) → headRest (formFor v) ≡ replicate 492 0
+form-rest v =
+    ⊎-elim
+    (λ (e : eqb v 1 ≡ true). ap headRest (form-old v (eqb-true v 1 e)) ∙ rest-1)
+    (λ (e : eqb v 1 ≡ false). ap headRest (form-new v (eqb-false v 1 e)) ∙ rest-2)
+    (true-or-false (eqb v 1))
+
+pub fit-1 : Fit version1
+unfolding version1
+fit-1 = record { some = omega arith; most = omega arith; number = omega arith; room = omega arith }
+
+pub fit-2 : Fit version2
+unfolding version2
+fit-2 = record { some = omega arith; most = omega arith; number = omega arith; room = omega arith }
+
+pub head-by-form : (b : List ℕ) → length b ≡ 512
+    → headSound (formIn b) b ≡ both (eqb (numberOf b) 0) (both (eqb (kindOf b) 1) (both (either (eqb (versionOf b) 1) (eqb (versionOf b) 2)) (both (inLimits (leavesOf b)) (unusedZero b 16))))
+head-by-form b h =
+    let r : same (part b 16 492) (headRest (formIn b)) ≡ unusedZero b 16 =
+    ap (same (part b 16 492)) (form-rest (versionOf b)) ∙ same-zeros (part b 16 492) 492 (length-part′ b 16 492 (omega arith)) in
+    head-by (formIn b) b h ∙ (λ i. both (eqb (numberOf b) 0) (both (eqb (kindOf b) 1) (both (form-version (versionOf b) i) (both (inLimits (leavesOf b)) (r i)))))
 
 -- a record block
 module _ (last : Bool) (j : ℕ) (b : List ℕ) where

@@ -1,4 +1,4 @@
--- 01 "Archive image": the bytes of an image of n leaves and a list of records, and the records of a memory. The form is a parameter.
+-- 01 "Archive image" and 02 E2: the bytes of an image of n leaves and a list of records, and the records of a memory. The form is a parameter.
 use mathlib.Core.List.{List, [], _∷_, _++_}
 use mathlib.Core.Path.{_≡_}
 use Prim.Native.Nat.{ℕ, zero, suc, _+_, _*_, _/_, _-_, _≤_, _<_}
@@ -19,6 +19,14 @@ pub record Form : Type 0 where
 -- "version 1 ..; a = (a + w) mod 65,535, then b = (b + a) mod 65,535"
 unfoldable pub version1 : Form
 version1 = record { modulus = 65535; version = 1; after = [] }
+
+-- 02: "Version 2 images take both sums modulo 65,536."
+unfoldable pub version2 : Form
+version2 = record { modulus = 65536; version = 2; after = [] }
+
+-- 02: "version 1 still reads by its old rule; .. a head of any other version is checked by the new rule"
+unfoldable pub formFor : ℕ → Form
+formFor version = pick (eqb version 1) version1 version2
 
 -- a form whose sums, number and bytes have their places
 pub record Fit (F : Form) : Type 0 where
@@ -109,6 +117,9 @@ recordsBelow n mem (suc k) = recordsBelow n mem k ++ pick (eqb (leafBit n mem k)
 abbrev pub recordsOf : ℕ → List ℕ → List Record
 recordsOf n mem = recordsBelow n mem n
 
--- the image of a memory of n leaves
+-- 02: "We write version 2 only": the image of a memory of n leaves, and what the old writer wrote
 abbrev pub imageOf : ℕ → List ℕ → List ℕ
-imageOf n mem = encode version1 n (recordsOf n mem)
+imageOf n mem = encode version2 n (recordsOf n mem)
+
+abbrev pub oldImageOf : ℕ → List ℕ → List ℕ
+oldImageOf n mem = encode version1 n (recordsOf n mem)

@@ -10,7 +10,7 @@ use Rattle.laws.specs.Scan.{all}
 use Rattle.geometry.specs.TagMemory.{inLimits}
 use Rattle.block.specs.Block.{allZero}
 use Rattle.sums.specs.Check.{checkRight}
-use Rattle.image.specs.Encode.{Form, version1, headRest, Record}
+use Rattle.image.specs.Encode.{Form, formFor, headRest, Record}
 
 -- "Blocks of 512 bytes": how many whole ones, and block j
 abbrev pub wholeBlocks : List ℕ → ℕ
@@ -72,7 +72,10 @@ unfoldable pub soundAt : Form → List ℕ → ℕ → Bool
 soundAt F image j =
     pick (eqb j 0) (headSound F (imageBlock image j)) (blockSound (eqb (j + 1) (wholeBlocks image)) j (imageBlock image j))
 
--- n and m in the head of an image
+-- the version, n and m in the head of an image
+abbrev pub versionIn : List ℕ → ℕ
+versionIn image = versionOf (imageBlock image 0)
+
 abbrev pub leavesIn : List ℕ → ℕ
 leavesIn image = leavesOf (imageBlock image 0)
 
@@ -121,9 +124,9 @@ rulesKept F image =
 unfoldable pub testBy : Form → List ℕ → ℕ
 testBy F image = pick (both (lengthRight image) (checksRight F image)) (pick (rulesKept F image) 0 11) 10
 
--- the form that a head, and the image with it, is tested by: there is one
+-- the form that a head, and the image with it, is tested by
 abbrev pub formIn : List ℕ → Form
-formIn b = version1
+formIn b = formFor (versionOf b)
 
 abbrev pub formOf : List ℕ → Form
 formOf image = formIn (imageBlock image 0)

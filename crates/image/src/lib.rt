@@ -1,14 +1,15 @@
-// The image test: 01 "Archive image" and the refusals 10 and 11. The definitions of the whole chapter stand in specs/.
+// The image test: 01 "Archive image" and the refusals 10 and 11, of versions 1 and 2 (02 E2). The definitions of the whole chapter stand in specs/.
 // No public function has a `requires`.
 use geometry::Geometry;
 ghost use mathlib.Core.Path.{_≡_};
 ghost use mathlib.Core.Bool.{true};
 ghost use Prim.Native.Nat.{_*_, _/_, _%_, _-_, _≤_, _<_};
 ghost use lib.ListN.{length, replicate};
-ghost use Rattle.laws.specs.Choice.{both};
+ghost use lib.Dec.{eqb};
+ghost use Rattle.laws.specs.Choice.{both, either};
 ghost use Rattle.laws.specs.Bytes.{putW};
 ghost use Rattle.laws.specs.Scan.{all};
-ghost use Rattle.image.specs.Test.{countOf, unusedZero, headSound, countRight, blockSound, leavesIn, recordedIn, recordCount, recordIn, lowest, goodRecord, recordGood, formIn, imageTest};
+ghost use Rattle.image.specs.Test.{countOf, unusedZero, headSound, countRight, blockSound, versionIn, leavesIn, recordedIn, recordCount, recordIn, lowest, goodRecord, recordGood, formIn, imageTest};
 
 // An image block's bytes, where its records begin, where the first one's 64 bytes begin, where its check stands; a record's bytes, and the records of a full block.
 pub const BLOCK: usize = 512;
@@ -40,7 +41,17 @@ fn unused_zero(block: &[u8], at: usize) -> bool
     block::all_zero(&block[at..CHECK])
 }
 
-// The head is sound, its m apart.
+// There is such a version.
+fn known(version: u16) -> bool
+    ensures { λ r. ⌜ r ≡ either (eqb version 1) (eqb version 2) ⌝ }
+{
+    if version == 1 {
+        return true;
+    }
+    version == 2
+}
+
+// The head is sound by its version's form, its m apart.
 pub fn head_sound(block: &[u8]) -> bool
     ensures { λ r. ⌜ r ≡ headSound (formIn (now (block .entry))) (now (block .entry)) ⌝ }
 {
@@ -55,7 +66,7 @@ pub fn head_sound(block: &[u8]) -> bool
     let limits = Geometry::in_limits(n as u64);
     and(
         number == 0,
-        and(kind == 1, and(version == 1, and(limits, zeros))),
+        and(kind == 1, and(known(version), and(limits, zeros))),
     )
 }
 
@@ -163,6 +174,13 @@ fn block_kept(n: u32, before: Kept, last: bool, j: u64, block: &[u8]) -> Kept
     records_good(n, before.low, block, count)
 }
 
+// The version in the head of an image.
+pub fn version_in(image: &[u8]) -> u16
+    ensures { λ r. ⌜ r ≡ versionIn (now (image .entry)) ⌝ }
+{
+    sums::two_at(image, 6)
+}
+
 // n in the head of an image.
 pub fn leaves_in(image: &[u8]) -> u32
     ensures { λ r. ⌜ r ≡ leavesIn (now (image .entry)) ⌝ }
@@ -183,7 +201,8 @@ fn test_blocks(image: &[u8]) -> u64
     ensures { λ r. ⌜ r ≡ imageTest (now (image .entry)) ⌝ }
 {
     let whole = image.len() / BLOCK;
-    let right = sums::check_right(&image[0..BLOCK]);
+    let version = version_in(image);
+    let right = sums::check_right(version, &image[0..BLOCK]);
     if !right {
         return 10;
     }
@@ -196,7 +215,7 @@ fn test_blocks(image: &[u8]) -> u64
     let mut j: usize = 1;
     while j < whole {
         let at = BLOCK * j;
-        let good = sums::check_right(&image[at..at + BLOCK]);
+        let good = sums::check_right(version, &image[at..at + BLOCK]);
         if !good {
             return 10;
         }

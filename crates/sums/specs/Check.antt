@@ -1,10 +1,10 @@
--- 01 "Archive image": the check of a block, two sums over its two-byte words, the modulus a parameter.
+-- 01 "Archive image" and 02 E2: the check of a block, two sums over its two-byte words, the modulus a parameter.
 use mathlib.Core.List.{List, _++_}
 use mathlib.Core.Bool.{Bool}
 use Prim.Native.Nat.{ℕ, zero, suc, _+_, _*_, _%_}
 use lib.ListN.{length, getD}
 use lib.Dec.{eqb}
-use Rattle.laws.specs.Choice.{both}
+use Rattle.laws.specs.Choice.{pick, both}
 use Rattle.laws.specs.Bytes.{bytes, numberAt, putW}
 
 -- "the 254 two-byte words of bytes 0 to 507": word k of a block, low byte first
@@ -32,3 +32,7 @@ checkRight M b = both (eqb (length b) 512) (both (eqb (numberAt 2 b 508) (sumA M
 -- the block with its check in place
 unfoldable pub withCheck : ℕ → List ℕ → List ℕ
 withCheck M b = putW 4 b 508 (checkOf M b)
+
+-- 02: "Version 2 images take both sums modulo 65,536. .. version 1 still reads by its old rule; .. a head of any other version is checked by the new rule"
+unfoldable pub modulusFor : ℕ → ℕ
+modulusFor version = pick (eqb version 1) 65535 65536

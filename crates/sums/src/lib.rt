@@ -1,10 +1,10 @@
-// The check of a block: 01 "Archive image", its second paragraph; and the numbers of an image, of two and of four bytes.
+// The check of a block, by the old rule and by the new: 01 "Archive image", its second paragraph, and 02 E2; and the numbers of an image, of two and of four bytes.
 // No public function has a `requires`: where the bytes are not all there, a read gives 0 and a write changes nothing.
 ghost use mathlib.Core.Path.{_≡_};
 ghost use Prim.Native.Nat.{_+_, _*_, _<_, _≤_};
 ghost use lib.ListN.{length};
 ghost use Rattle.laws.specs.Bytes.{numberAt, putW, bytes};
-ghost use Rattle.sums.specs.Check.{word, sumA, sumB, checkRight, withCheck};
+ghost use Rattle.sums.specs.Check.{word, sumA, sumB, checkRight, withCheck, modulusFor};
 
 // An image block's bytes, where its check stands in it, and the words before that.
 const BLOCK: usize = 512;
@@ -98,8 +98,8 @@ fn word_at(block: &[u8], k: usize) -> u16
     join2(block[2 * k], block[2 * k + 1])
 }
 
-// The two sums of a block's words. The modulus is taken once, at the end: without it both stay far below 2^64.
-fn sum_words(block: &[u8]) -> Sums
+// The two sums of version 1, modulo 65,535. The modulus is taken once, at the end: without it both stay far below 2^64.
+fn old_sums(block: &[u8]) -> Sums
     requires { ⌜ 508 ≤ length (now block) ⌝ }
     ensures { λ r. ⌜ (r .a ≡ sumA 65535 (now (block .entry)) 254) × (r .b ≡ sumB 65535 (now (block .entry)) 254) ⌝ }
 {
@@ -117,28 +117,55 @@ fn sum_words(block: &[u8]) -> Sums
     }
 }
 
-// The block's check is right.
-pub fn check_right(block: &[u8]) -> bool
-    ensures { λ r. ⌜ r ≡ checkRight 65535 (now (block .entry)) ⌝ }
+// The two sums of every other version, modulo 65,536: both wrap.
+fn new_sums(block: &[u8]) -> Sums
+    requires { ⌜ 508 ≤ length (now block) ⌝ }
+    ensures { λ r. ⌜ (r .a ≡ sumA 65536 (now (block .entry)) 254) × (r .b ≡ sumB 65536 (now (block .entry)) 254) ⌝ }
+{
+    let mut a: u16 = 1;
+    let mut b: u16 = 0;
+    let mut k: usize = 0;
+    while k < WORDS {
+        a = std::num::wrapping_add_u16(a, word_at(block, k));
+        b = std::num::wrapping_add_u16(b, a);
+        k += 1;
+    }
+    Sums { a: a, b: b }
+}
+
+// The two sums by a version's rule.
+fn sums_by(version: u16, block: &[u8]) -> Sums
+    requires { ⌜ 508 ≤ length (now block) ⌝ }
+    ensures { λ r. ⌜ (r .a ≡ sumA (modulusFor version) (now (block .entry)) 254) × (r .b ≡ sumB (modulusFor version) (now (block .entry)) 254) ⌝ }
+{
+    if version == 1 {
+        return old_sums(block);
+    }
+    new_sums(block)
+}
+
+// The block's check is right by a version's rule.
+pub fn check_right(version: u16, block: &[u8]) -> bool
+    ensures { λ r. ⌜ r ≡ checkRight (modulusFor version) (now (block .entry)) ⌝ }
 {
     if block.len() != BLOCK {
         return false;
     }
-    let s = sum_words(block);
+    let s = sums_by(version, block);
     if two_at(block, CHECK) != s.a {
         return false;
     }
     two_at(block, CHECK + 2) == s.b
 }
 
-// The block gets its check in bytes 508 to 511; where fewer than 512 bytes are lent, nothing changes.
+// The block gets its check, by the new rule, in bytes 508 to 511; where fewer than 512 bytes are lent, nothing changes.
 pub fn seal(block: &mut [u8])
-    ensures { λ _. ⌜ now (block .exit) ≡ withCheck 65535 (now (block .entry)) ⌝ }
+    ensures { λ _. ⌜ now (block .exit) ≡ withCheck 65536 (now (block .entry)) ⌝ }
 {
     if block.len() < BLOCK {
         return;
     }
-    let s = sum_words(block);
+    let s = new_sums(block);
     put_two(block, CHECK, s.a);
     put_two(block, CHECK + 2, s.b);
 }

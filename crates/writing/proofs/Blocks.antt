@@ -13,9 +13,10 @@ use Rattle.laws.proofs.Value.{length-bytes}
 use Rattle.sums.specs.Check.{checkOf, withCheck}
 use Rattle.laws.proofs.Writes.{splice-none, splice-then, take-splice}
 use Rattle.sums.proofs.Right.{sealed}
-use Rattle.image.specs.Encode.{Form, version1, Record, none, Sized, recordBytes, recordsBytes, headFront, headRest, headOf, headed, blockFront, blockWith, closed, blockOf, next7, recordBlocks, blocksFor, encode, recordOf, recordsBelow, recordsOf, imageOf}
+use Rattle.image.specs.Encode.{Form, version2, Record, none, Sized, recordBytes, recordsBytes, headFront, headRest, headOf, headed, blockFront, blockWith, closed, blockOf, next7, recordBlocks, blocksFor, encode, recordOf, recordsBelow, recordsOf, imageOf}
 use Rattle.memory.specs.PlainReading.{leafBit}
 use Rattle.memory.specs.True.{blockAt}
+use Rattle.image.proofs.Sound.{fit-2}
 use Rattle.image.proofs.Records.{records-sized, closed-is, closed-records, headed-is, records-none, records-more, below-at, length-take, length-record, length-records, length-headFront, length-head, length-blockFront, length-payload, length-block, length-blocks, next-few, next-full, next-bounds}
 
 -- a write right after another
@@ -74,12 +75,12 @@ pub close-law : (M : ℕ) (o : List ℕ) (j c : ℕ) → length o ≡ 512 → c 
 close-law M o j c h le = with-law M o j c h le ∙ sym (closed-is M o j c h le)
 
 pub block-law : (o : List ℕ) (j c : ℕ) (rs : List Record) (a : ℕ) → length o ≡ 512 → c ≤ 7 → Sized rs → a + c ≤ length rs
-    → closed 65535 (splice o 8 (recordsBytes rs a c)) j c ≡ blockOf 65535 j rs a c
+    → closed 65536 (splice o 8 (recordsBytes rs a c)) j c ≡ blockOf 65536 j rs a c
 block-law o j c rs a h le s g =
     let R : List ℕ = recordsBytes rs a c in
     let lr : length R ≡ 68 * c = length-records rs s a c g in
     let ls : length (splice o 8 R) ≡ 512 = length-splice o 8 R (omega arith) ∙ h in
-    closed-records 65535 (splice o 8 R) j rs a c ls le (ap (part (splice o 8 R) 8) (sym lr) ∙ part-same o 8 R (omega arith))
+    closed-records 65536 (splice o 8 R) j rs a c ls le (ap (part (splice o 8 R) 8) (sym lr) ∙ part-same o 8 R (omega arith))
 
 head-law : (F : Form) (o : List ℕ) (n m : ℕ) → length o ≡ 512 → headRest F ≡ replicate 492 0
     → withCheck (F .modulus) (putW 492 (putW 4 (putW 4 (putW 2 (putW 2 (putW 4 o 0 (bytes 4 0)) 4 (bytes 2 1)) 6 (bytes 2 (F .version))) 8 (bytes 4 n)) 12 (bytes 4 m)) 16 (replicate 492 0)) ≡ headed F o n m
@@ -114,20 +115,16 @@ head-law F o n m h z =
     )
     (finish-law (F .modulus) o (headFront F n m ++ Z) h lv ∙ ap (λ (x : List ℕ). (headFront F n m ++ x) ++ checkOf (F .modulus) (headFront F n m ++ x)) (sym z) ∙ sym (headed-is F o n m h))
 
--- the head of version 1
-pub head-law-1 : (o : List ℕ) (n m : ℕ) → length o ≡ 512
-    → withCheck 65535 (putW 492 (putW 4 (putW 4 (putW 2 (putW 2 (putW 4 o 0 (bytes 4 0)) 4 (bytes 2 1)) 6 (bytes 2 1)) 8 (bytes 4 n)) 12 (bytes 4 m)) 16 (replicate 492 0)) ≡ headed version1 o n m
-unfolding version1
-head-law-1 o n m h = head-law version1 o n m h refl
-
-pub after-1 : length (version1 .after) ≤ 492
-unfolding version1
-after-1 = omega arith
+-- the head of version 2
+pub head-law-2 : (o : List ℕ) (n m : ℕ) → length o ≡ 512
+    → withCheck 65536 (putW 492 (putW 4 (putW 4 (putW 2 (putW 2 (putW 4 o 0 (bytes 4 0)) 4 (bytes 2 1)) 6 (bytes 2 2)) 8 (bytes 4 n)) 12 (bytes 4 m)) 16 (replicate 492 0)) ≡ headed version2 o n m
+unfolding version2
+head-law-2 o n m h = head-law version2 o n m h refl
 
 -- where the writing of record blocks has come to, after j of them: the next leaf is k
 pub record Progress (o mem : List ℕ) (n m : ℕ) (out : List ℕ) (j k : ℕ) : Type 0 where
   pub long : length out ≡ length o
-  pub done : out ≡ splice o 512 (recordBlocks 65535 (recordsOf n mem) j)
+  pub done : out ≡ splice o 512 (recordBlocks 65536 (recordsOf n mem) j)
   pub leaf : k ≤ n
   pub place : length (recordsBelow n mem k) + (m - 7 * j) ≡ m
   pub few : j ≤ blocksFor m
@@ -152,21 +149,21 @@ module _ (o mem : List ℕ) (n m : ℕ) (out : List ℕ) (j k : ℕ) (P : Progre
       (lt-or-ge (m - 7 * j) 8)
 
   pub next-block : (k′ c : ℕ) (b : List ℕ) → 64 * n ≤ length mem → 512 * (1 + blocksFor m) ≤ length o → c ≡ next7 (m - 7 * j)
-      → b ≡ blockOf 65535 (j + 1) (recordsOf n mem) (length (recordsBelow n mem k)) c → k′ ≤ n
+      → b ≡ blockOf 65536 (j + 1) (recordsOf n mem) (length (recordsBelow n mem k)) c → k′ ≤ n
       → length (recordsBelow n mem k′) ≡ length (recordsBelow n mem k) + c
       → Progress o mem n m (splice out (512 * (j + 1)) b) (j + 1) k′
   unfolding recordBlocks
   next-block k′ c b long big ec e hk ek =
       let rs : List Record = recordsOf n mem in
       let s : Sized rs = records-sized n mem long in
-      let f : b ≡ blockOf 65535 (suc j) rs (7 * j) (next7 (length rs - 7 * j)) = e ∙ rw (ec, at-block, em, add-one j) in
-      let lb : length b ≡ 512 = ap length e ∙ length-block 65535 (j + 1) rs (length (recordsBelow n mem k)) c s (omega (arith, next-bounds (m - 7 * j) .0)) (omega (arith, room)) in
-      let ls : length (recordBlocks 65535 rs j) ≡ 512 * j = length-blocks 65535 rs s j (omega arith) in
+      let f : b ≡ blockOf 65536 (suc j) rs (7 * j) (next7 (length rs - 7 * j)) = e ∙ rw (ec, at-block, em, add-one j) in
+      let lb : length b ≡ 512 = ap length e ∙ length-block 65536 (j + 1) rs (length (recordsBelow n mem k)) c s (omega (arith, next-bounds (m - 7 * j) .0)) (omega (arith, room)) in
+      let ls : length (recordBlocks 65536 rs j) ≡ 512 * j = length-blocks 65536 rs s j (omega arith) in
       record {
         long = length-splice out (512 * (j + 1)) b (omega (arith, P .long)) ∙ P .long;
         done = ap (λ (l : List ℕ). splice l (512 * (j + 1)) b) (P .done)
-            ∙ splice-then o 512 (recordBlocks 65535 rs j) b (512 * (j + 1)) (omega arith) (omega arith)
-            ∙ rw (add-one j) (ap (λ (l : List ℕ). splice o 512 (recordBlocks 65535 rs j ++ l)) f);
+            ∙ splice-then o 512 (recordBlocks 65536 rs j) b (512 * (j + 1)) (omega arith) (omega arith)
+            ∙ rw (add-one j) (ap (λ (l : List ℕ). splice o 512 (recordBlocks 65536 rs j ++ l)) f);
         leaf = hk;
         place = rw (ek, ec) after;
         few = omega arith;
@@ -174,14 +171,14 @@ module _ (o mem : List ℕ) (n m : ℕ) (out : List ℕ) (j k : ℕ) (P : Progre
 
 -- the head and the blocks after it
 pub image-law : (o mem : List ℕ) (n m : ℕ) → m ≡ length (recordsOf n mem) → 64 * n ≤ length mem → 512 * (1 + blocksFor m) ≤ length o
-    → splice (splice o 0 (headOf version1 n m)) 512 (recordBlocks 65535 (recordsOf n mem) (blocksFor m)) ≡ splice o 0 (imageOf n mem)
-unfolding encode version1
+    → splice (splice o 0 (headOf version2 n m)) 512 (recordBlocks 65536 (recordsOf n mem) (blocksFor m)) ≡ splice o 0 (imageOf n mem)
+unfolding encode version2
 image-law o mem n m e long big =
     let rs : List Record = recordsOf n mem in
-    let lh : length (headOf version1 n m) ≡ 512 = length-head version1 n m after-1 in
-    let lb : length (recordBlocks 65535 rs (blocksFor m)) ≡ 512 * blocksFor m = length-blocks 65535 rs (records-sized n mem long) (blocksFor m) (omega arith) in
-    splice-then o 0 (headOf version1 n m) (recordBlocks 65535 rs (blocksFor m)) 512 (omega arith) (omega arith)
-    ∙ ap (λ (x : ℕ). splice o 0 (headOf version1 n x ++ recordBlocks 65535 rs (blocksFor x))) e
+    let lh : length (headOf version2 n m) ≡ 512 = length-head version2 n m (fit-2 .room) in
+    let lb : length (recordBlocks 65536 rs (blocksFor m)) ≡ 512 * blocksFor m = length-blocks 65536 rs (records-sized n mem long) (blocksFor m) (omega arith) in
+    splice-then o 0 (headOf version2 n m) (recordBlocks 65536 rs (blocksFor m)) 512 (omega arith) (omega arith)
+    ∙ ap (λ (x : ℕ). splice o 0 (headOf version2 n x ++ recordBlocks 65536 rs (blocksFor x))) e
 
 -- where the writing of a block's records has come to, after i of them: the next leaf is `next`
 pub record Written (o mem : List ℕ) (n k : ℕ) (row : List ℕ) (i next : ℕ) : Type 0 where

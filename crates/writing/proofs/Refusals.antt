@@ -9,14 +9,14 @@ use borrow.Author.Tests.{eq-eqb, ne-eqb, le-leb, lt-leb}
 use Rattle.laws.specs.Bytes.{splice}
 use Rattle.geometry.specs.TagMemory.{inLimits, memoryLength}
 use Rattle.memory.specs.True.{isTrue}
-use Rattle.image.specs.Encode.{version1, recordsOf, imageOf, blocksFor}
+use Rattle.image.specs.Encode.{version2, recordsOf, imageOf, blocksFor}
 use Rattle.image.specs.Calls.{writingRefusal, writingAnswer, written}
 use Rattle.image.proofs.Records.{records-sized, length-encode}
-use Rattle.writing.proofs.Blocks.{after-1}
+use Rattle.image.proofs.Sound.{fit-2}
 
 -- the image's length by the number of leaves with bit 1
 pub length-image : (n : ℕ) (mem : List ℕ) (m : ℕ) → 64 * n ≤ length mem → m ≡ length (recordsOf n mem) → length (imageOf n mem) ≡ 512 * (1 + blocksFor m)
-length-image n mem m h e = rw e (length-encode version1 n (recordsOf n mem) after-1 (records-sized n mem h))
+length-image n mem m h e = rw e (length-encode version2 n (recordsOf n mem) (fit-2 .room) (records-sized n mem h))
 
 module _ (n : ℕ) (mem : List ℕ) (room : ℕ) where
   pub refusal-1 : inLimits n ≡ false → writingRefusal n mem room ≡ 1

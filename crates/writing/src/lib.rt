@@ -1,4 +1,4 @@
-// Writing an image from a true memory: 01 "Archive image", "Writing reads a true memory".
+// Writing an image, of version 2, from a true memory: 01 "Archive image", "Writing reads a true memory", and 02 E2.
 // A block is written over any records: `put_record` puts each in its place, `close_block` makes the row their block. No public function has a `requires`.
 use geometry::Geometry;
 ghost use mathlib.Core.Path.{_≡_};
@@ -8,7 +8,7 @@ ghost use mathlib.Core.List.{_++_};
 ghost use Rattle.laws.specs.Bytes.{splice, putW, bytes};
 ghost use Rattle.geometry.specs.TagMemory.{memoryLength};
 ghost use Rattle.memory.specs.PlainReading.{leafBit};
-ghost use Rattle.image.specs.Encode.{version1, recordsBytes, headed, blockFront, closed, blockOf, next7, recordBlocks, blocksFor, recordsBelow, recordsOf, imageOf};
+ghost use Rattle.image.specs.Encode.{version2, recordsBytes, headed, blockFront, closed, blockOf, next7, recordBlocks, blocksFor, recordsBelow, recordsOf, imageOf};
 ghost use Rattle.image.specs.Calls.{writingAnswer, written};
 
 const REFUSED: u64 = 4294967296;
@@ -114,7 +114,7 @@ fn put_front(row: &mut [u8], j: u32, count: u16)
 
 // The row, in which `count` records stand in their places, made record block j: its front, zeros after the records, the check. A row that is no block stays as it was, and so does one with more than 7 records.
 pub fn close_block(row: &mut [u8], j: u32, count: u16)
-    ensures { λ _. ⌜ now (row .exit) ≡ closed 65535 (now (row .entry)) j count ⌝ }
+    ensures { λ _. ⌜ now (row .exit) ≡ closed 65536 (now (row .entry)) j count ⌝ }
 {
     if row.len() != image::BLOCK {
         return;
@@ -131,7 +131,7 @@ pub fn close_block(row: &mut [u8], j: u32, count: u16)
 // Record block j with the next `count` records, from leaf k on. Gives the leaf after the last one.
 fn put_block(row: &mut [u8], j: u32, count: u16, n: u32, memory: &[u8], k: u32) -> u32
     requires { ⌜ (length (now row) ≡ 512) × (count ≤ 7) × (length (now memory) ≡ memoryLength n) × (k ≤ n) × (length (recordsBelow n (now memory) k) + count ≤ length (recordsOf n (now memory))) ⌝ }
-    ensures { λ r. ⌜ (now (row .exit) ≡ blockOf 65535 j (recordsOf n (now (memory .entry))) (length (recordsBelow n (now (memory .entry)) k)) count) × (r ≤ n) × (length (recordsBelow n (now (memory .entry)) r) ≡ length (recordsBelow n (now (memory .entry)) k) + count) ⌝ }
+    ensures { λ r. ⌜ (now (row .exit) ≡ blockOf 65536 j (recordsOf n (now (memory .entry))) (length (recordsBelow n (now (memory .entry)) k)) count) × (r ≤ n) × (length (recordsBelow n (now (memory .entry)) r) ≡ length (recordsBelow n (now (memory .entry)) k) + count) ⌝ }
 {
     let next = put_records(row, count as usize, n, memory, k);
     close_block(row, j, count);
@@ -140,14 +140,14 @@ fn put_block(row: &mut [u8], j: u32, count: u16, n: u32, memory: &[u8], k: u32) 
 
 // The row made the head; a row that is no block stays as it was.
 pub fn put_head(row: &mut [u8], n: u32, m: u32)
-    ensures { λ _. ⌜ now (row .exit) ≡ headed version1 (now (row .entry)) n m ⌝ }
+    ensures { λ _. ⌜ now (row .exit) ≡ headed version2 (now (row .entry)) n m ⌝ }
 {
     if row.len() != image::BLOCK {
         return;
     }
     sums::put_four(row, 0, 0);
     sums::put_two(row, 4, 1);
-    sums::put_two(row, 6, 1);
+    sums::put_two(row, 6, 2);
     sums::put_four(row, 8, n);
     sums::put_four(row, 12, m);
     image::clear(row, 16, 492);
@@ -167,7 +167,7 @@ fn next_7(left: u32) -> u16
 // The record blocks of m leaves with bit 1, from block 1 on.
 fn put_blocks(output: &mut [u8], n: u32, memory: &[u8], m: u32)
     requires { ⌜ (512 * (1 + blocksFor m) ≤ length (now output)) × (length (now memory) ≡ memoryLength n) × (n ≤ 262144) × (m ≤ n) × (m ≡ length (recordsOf n (now memory))) ⌝ }
-    ensures { λ _. ⌜ now (output .exit) ≡ splice (now (output .entry)) 512 (recordBlocks 65535 (recordsOf n (now (memory .entry))) (blocksFor m)) ⌝ }
+    ensures { λ _. ⌜ now (output .exit) ≡ splice (now (output .entry)) 512 (recordBlocks 65536 (recordsOf n (now (memory .entry))) (blocksFor m)) ⌝ }
 {
     let blocks = (m + 6) / 7;
     let mut j: u32 = 0;

@@ -1,7 +1,7 @@
 -- `image::head_sound` meets its contract: each field is read, and the tests are put together as in the definition.
 use mathlib.Core.Path.{sym}
 use native.Mathlib.Omega.{arith}
-use Rattle.image.proofs.Sound.{head-short, head-by-1}
+use Rattle.image.proofs.Sound.{head-short, head-by-form}
 use borrow.Author.Needs.{needs}
 use Rattle.image.proofs.head_sound.Statement.{statement}
 use Rattle.image.proofs.head_sound.Tie as tie
@@ -30,6 +30,9 @@ cast-in-limits c = search needs
 in-limits-requires : tie.Need-in-limits-requires
 in-limits-requires c κs = search needs
 
+known-requires : tie.Need-known-requires
+known-requires c κs = search needs
+
 and-requires : tie.Need-and-requires
 and-requires c κs = search needs
 
@@ -43,7 +46,7 @@ and-requires-4 : tie.Need-and-requires-4
 and-requires-4 c κs = search needs
 
 returns-2 : tie.Need-returns-2
-returns-2 c = cc (head-by-1 (c .before .before .before .before .before .before .before .before .before .before .before .before .args .block .now) (omega arith))
+returns-2 c = cc (head-by-form (c .before .before .before .before .before .before .before .before .before .before .before .before .before .args .block .now) (omega arith))
 
 pub head-sound-spec : {M : Type 1} → statement M
 head-sound-spec =
@@ -57,6 +60,7 @@ head-sound-spec =
     unused-zero-requires
     cast-in-limits
     in-limits-requires
+    known-requires
     and-requires
     and-requires-2
     and-requires-3

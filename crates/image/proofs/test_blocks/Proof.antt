@@ -9,19 +9,22 @@ use lib.ListN.{take, drop}
 use Rattle.laws.specs.Choice.{both}
 use Rattle.laws.specs.Scan.{all}
 use Rattle.laws.proofs.Put.{part-is}
-use Rattle.sums.specs.Check.{checkRight}
-use Rattle.image.specs.Test.{formIn, formOf, wholeBlocks, imageBlock, countOf, headSound, blockSound, recordIn, lowest, goodRecord}
-use Rattle.image.proofs.Sound.{modulus-1}
+use Rattle.sums.specs.Check.{checkRight, modulusFor}
+use Rattle.image.specs.Test.{formIn, formOf, versionIn, wholeBlocks, imageBlock, countOf, headSound, blockSound, recordIn, lowest, goodRecord}
+use Rattle.image.proofs.Sound.{form-modulus}
 use Rattle.image.proofs.Rules.{Tested, tested-head, tested-next, wrong-check, broken, miscounted, is-kept}
 use borrow.Author.Needs.{needs}
 use Rattle.image.proofs.test_blocks.Statement.{statement}
 use Rattle.image.proofs.test_blocks.Tie as tie
 
 abbrev Inv-loop : tie.InvT-loop
-Inv-loop image whole right n sound kept₀ j₀ kept j = Tested (formOf image) image (kept .good) (kept .low) j
+Inv-loop image whole version right n sound kept₀ j₀ kept j = Tested (formOf image) image (kept .good) (kept .low) j
 
 abbrev μ-loop : tie.MeasureT-loop
-μ-loop image whole right n sound kept₀ j₀ kept j = whole - j
+μ-loop image whole version right n sound kept₀ j₀ kept j = whole - j
+
+version-in-requires : tie.Need-version-in-requires Inv-loop μ-loop
+version-in-requires c κs = search needs
 
 sub-check-right : tie.Need-sub-check-right Inv-loop μ-loop
 sub-check-right c = search needs
@@ -36,8 +39,8 @@ check-right-requires : tie.Need-check-right-requires Inv-loop μ-loop
 check-right-requires c κs = search needs
 
 returns : tie.Need-returns Inv-loop μ-loop
-returns c = let m = c .before .before .before .before .args .image .now in
-    sym (wrong-check (formOf m) m 0 (omega arith) (ap (λ (x : ℕ). checkRight x (imageBlock m 0)) modulus-1 ∙ ap (checkRight 65535) (sym (part-is m (512 * 0) 512)) ∙ sym (c .before .check-right .ensures) ∙ not-true _ (c .if1 .taken)))
+returns c = let m = c .before .before .before .before .before .args .image .now in
+    sym (wrong-check (formOf m) m 0 (omega arith) (ap (λ (x : ℕ). checkRight x (imageBlock m 0)) (form-modulus (versionIn m) ∙ ap modulusFor (sym (c .before .before .before .version-in .ensures))) ∙ ap (checkRight (modulusFor _)) (sym (part-is m (512 * 0) 512)) ∙ sym (c .before .check-right .ensures) ∙ not-true _ (c .if1 .taken)))
 
 leaves-in-requires : tie.Need-leaves-in-requires Inv-loop μ-loop
 leaves-in-requires c κs = search needs
@@ -55,8 +58,8 @@ head-sound-requires : tie.Need-head-sound-requires Inv-loop μ-loop
 head-sound-requires c κs = search needs
 
 loop-holds : tie.Need-loop-holds Inv-loop μ-loop
-loop-holds c = let m = c .before .before .before .before .before .before .before .args .image .now in
-    tested-head (formOf m) m (c .head-sound .result) (omega arith) (ap (λ (x : ℕ). checkRight x (imageBlock m 0)) modulus-1 ∙ ap (checkRight 65535) (sym (part-is m (512 * 0) 512)) ∙ sym (c .before .before .before .before .check-right .ensures) ∙ not-false _ (c .before .before .before .if1 .left))
+loop-holds c = let m = c .before .before .before .before .before .before .before .before .args .image .now in
+    tested-head (formOf m) m (c .head-sound .result) (omega arith) (ap (λ (x : ℕ). checkRight x (imageBlock m 0)) (form-modulus (versionIn m) ∙ ap modulusFor (sym (c .before .before .before .before .before .before .version-in .ensures))) ∙ ap (checkRight (modulusFor _)) (sym (part-is m (512 * 0) 512)) ∙ sym (c .before .before .before .before .check-right .ensures) ∙ not-false _ (c .before .before .before .if1 .left))
     (c .head-sound .ensures ∙ ap (λ (b : List ℕ). headSound (formIn b) b) (part-is m 0 512))
 
 mul-at : tie.Need-mul-at Inv-loop μ-loop
@@ -78,9 +81,9 @@ check-right-requires-2 : tie.Need-check-right-requires-2 Inv-loop μ-loop
 check-right-requires-2 c κs = search needs
 
 returns-2 : tie.Need-returns-2 Inv-loop μ-loop
-returns-2 c = let m = c .before .before .before .before .before .before .before .before .before .before .before .before .args .image .now in
+returns-2 c = let m = c .before .before .before .before .before .before .before .before .before .before .before .before .before .args .image .now in
     let j = c .before .before .before .before .loop .j in
-    sym (wrong-check (formOf m) m j (omega arith) (ap (λ (x : ℕ). checkRight x (imageBlock m j)) modulus-1 ∙ ap (checkRight 65535) (sym (part-is m (512 * j) 512)) ∙ sym (c .before .check-right2 .ensures) ∙ not-true _ (c .if2 .taken)))
+    sym (wrong-check (formOf m) m j (omega arith) (ap (λ (x : ℕ). checkRight x (imageBlock m j)) (form-modulus (versionIn m) ∙ ap modulusFor (sym (c .before .before .before .before .before .before .before .before .before .before .before .version-in .ensures))) ∙ ap (checkRight (modulusFor _)) (sym (part-is m (512 * j) 512)) ∙ sym (c .before .check-right2 .ensures) ∙ not-true _ (c .if2 .taken)))
 
 add-block-kept : tie.Need-add-block-kept Inv-loop μ-loop
 add-block-kept c = search needs
@@ -107,17 +110,17 @@ loop-less : tie.Need-loop-less Inv-loop μ-loop
 loop-less c = search needs
 
 loop-again : tie.Need-loop-again Inv-loop μ-loop
-loop-again c = let m = c .before .before .before .before .before .before .before .before .before .before .before .before .before .before .args .image .now in
+loop-again c = let m = c .before .before .before .before .before .before .before .before .before .before .before .before .before .before .before .args .image .now in
     let l = c .before .before .before .before .before .before .loop in
     let k = c .block-kept in
     let b : take (512 * l .j + 512 - 512 * l .j) (drop (512 * l .j) m) ≡ imageBlock m (l .j) = part-is m (512 * l .j) 512 in
     tested-next (formOf m) m (l .kept .good) (l .kept .low) (l .j) (l .inv) (omega arith) (k .result .good) (k .result .low)
-    (ap (λ (x : ℕ). checkRight x (imageBlock m (l .j))) modulus-1 ∙ ap (checkRight 65535) (sym (part-is m (512 * (l .j)) 512)) ∙ sym (c .before .before .before .check-right2 .ensures) ∙ not-false _ (c .before .before .if2 .left))
+    (ap (λ (x : ℕ). checkRight x (imageBlock m (l .j))) (form-modulus (versionIn m) ∙ ap modulusFor (sym (c .before .before .before .before .before .before .before .before .before .before .before .before .before .version-in .ensures))) ∙ ap (checkRight (modulusFor _)) (sym (part-is m (512 * (l .j)) 512)) ∙ sym (c .before .before .before .check-right2 .ensures) ∙ not-false _ (c .before .before .if2 .left))
     (k .ensures .0 ∙ (λ i. both (l .kept .good) (both (blockSound (eqb (l .j + 1) (wholeBlocks m)) (l .j) (b i)) (all (goodRecord (c .before .before .before .before .before .before .before .before .before .leaves-in .ensures i) (l .kept .low) (recordIn (b i))) (countOf (b i))))))
     (λ t. k .ensures .1 t ∙ (λ i. lowest (l .kept .low) (recordIn (b i)) (countOf (b i))))
 
 returns-3 : tie.Need-returns-3 Inv-loop μ-loop
-returns-3 c = let s = c .before .before .before .before .before .before .before .before .before .before .before in
+returns-3 c = let s = c .before .before .before .before .before .before .before .before .before .before .before .before in
     let m = s .args .image .now in
     let l = c .before .before .before .loop in
     sym (broken (formOf m) m (s .pre .0) (s .pre .1) (l .kept .good) (l .kept .low) (l .j) (l .inv) (omega arith) (not-true _ (c .if3 .taken)))
@@ -132,13 +135,13 @@ record-count-requires : tie.Need-record-count-requires Inv-loop μ-loop
 record-count-requires c κs = search needs
 
 returns-4 : tie.Need-returns-4 Inv-loop μ-loop
-returns-4 c = let s = c .before .before .before .before .before .before .before .before .before .before .before .before .before .before in
+returns-4 c = let s = c .before .before .before .before .before .before .before .before .before .before .before .before .before .before .before in
     let m = s .args .image .now in
     let l = c .before .before .before .before .before .before .loop in
     sym (miscounted (formOf m) m (s .pre .0) (s .pre .1) (l .kept .good) (l .kept .low) (l .j) (l .inv) (omega arith) (λ e. c .if4 .taken (c .before .before .recorded-in .ensures ∙ e ∙ sym (c .before .record-count .ensures))))
 
 returns-5 : tie.Need-returns-5 Inv-loop μ-loop
-returns-5 c = let s = c .before .before .before .before .before .before .before .before .before .before .before .before .before .before in
+returns-5 c = let s = c .before .before .before .before .before .before .before .before .before .before .before .before .before .before .before in
     let m = s .args .image .now in
     let l = c .before .before .before .before .before .before .loop in
     sym (is-kept (formOf m) m (s .pre .0) (s .pre .1) (l .kept .good) (l .kept .low) (l .j) (l .inv) (omega arith) (not-false _ (c .before .before .before .if3 .left)) (sym (c .before .before .recorded-in .ensures) ∙ c .if4 .left ∙ c .before .record-count .ensures))
@@ -149,6 +152,7 @@ test-blocks-spec =
     (tie.spec
     Inv-loop
     μ-loop
+    version-in-requires
     sub-check-right
     part-check-right-start
     part-check-right-end

@@ -12,8 +12,8 @@ returns : tie.Need-returns
 unfolding withCheck
 returns c = sym (putW-not 4 _ 508 _ (omega arith))
 
-sum-words-requires : tie.Need-sum-words-requires
-sum-words-requires c κs = search needs
+new-sums-requires : tie.Need-new-sums-requires
+new-sums-requires c κs = search needs
 
 put-two-requires : tie.Need-put-two-requires
 put-two-requires c κs = search needs
@@ -29,14 +29,14 @@ same-length c = search needs
 
 returns-2 : tie.Need-returns-2
 returns-2 c = let s = c .before .before .before .before .before .before .before .before .before .before .before .before in
-    cc (both-put 65535 (s .args .block .now) (omega arith))
+    cc (both-put 65536 (s .args .block .now) (omega arith))
 
 pub seal-spec : {M : Type 1} → statement M
 seal-spec =
     tie.close
     (tie.spec
     returns
-    sum-words-requires
+    new-sums-requires
     put-two-requires
     add-put-two
     put-two-requires-2

@@ -8,10 +8,10 @@ use Rattle.writing.proofs.close_block.Statement.{statement}
 use Rattle.writing.proofs.close_block.Tie as tie
 
 returns : tie.Need-returns
-returns c = sym (closed-short 65535 _ _ _ (c .if1 .taken))
+returns c = sym (closed-short 65536 _ _ _ (c .if1 .taken))
 
 returns-2 : tie.Need-returns-2
-returns-2 c = sym (closed-full 65535 _ _ _ (c .if2 .taken))
+returns-2 c = sym (closed-full 65536 _ _ _ (c .if2 .taken))
 
 put-front-requires : tie.Need-put-front-requires
 put-front-requires c κs = search needs
@@ -36,7 +36,7 @@ same-length c = search needs
 
 returns-3 : tie.Need-returns-3
 returns-3 c = let s = c .before .before .before .before .before .before .before .before .before .before .before .before .before .before .before in
-    cc (close-law 65535 (s .args .row .now) (s .args .j) (s .args .count) (c .before .before .before .before .before .before .before .before .before .before .before .before .before .if1 .left) (omega arith))
+    cc (close-law 65536 (s .args .row .now) (s .args .j) (s .args .count) (c .before .before .before .before .before .before .before .before .before .before .before .before .before .if1 .left) (omega arith))
 
 pub close-block-spec : {M : Type 1} → statement M
 close-block-spec =

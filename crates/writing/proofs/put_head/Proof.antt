@@ -1,14 +1,14 @@
 -- `writing::put_head` meets its contract: six writes one after the other, and the check.
 use mathlib.Core.Path.{sym}
-use Rattle.image.specs.Encode.{version1}
+use Rattle.image.specs.Encode.{version2}
 use Rattle.image.proofs.Records.{headed-short}
-use Rattle.writing.proofs.Blocks.{head-law-1}
+use Rattle.writing.proofs.Blocks.{head-law-2}
 use borrow.Author.Needs.{needs}
 use Rattle.writing.proofs.put_head.Statement.{statement}
 use Rattle.writing.proofs.put_head.Tie as tie
 
 returns : tie.Need-returns
-returns c = sym (headed-short version1 _ _ _ (c .if1 .taken))
+returns c = sym (headed-short version2 _ _ _ (c .if1 .taken))
 
 put-four-requires : tie.Need-put-four-requires
 put-four-requires c κs = search needs
@@ -36,7 +36,7 @@ same-length c = search needs
 
 returns-2 : tie.Need-returns-2
 returns-2 c = let s = c .before .before .before .before .before .before .before .before .before .before .before .before .before .before .before .before .before .before .before .before .before .before .before .before .before .before .before .before .before .before in
-    cc (head-law-1 (s .args .row .now) (s .args .n) (s .args .m) (c .before .before .before .before .before .before .before .before .before .before .before .before .before .before .before .before .before .before .before .before .before .before .before .before .before .before .before .before .if1 .left))
+    cc (head-law-2 (s .args .row .now) (s .args .n) (s .args .m) (c .before .before .before .before .before .before .before .before .before .before .before .before .before .before .before .before .before .before .before .before .before .before .before .before .before .before .before .before .if1 .left))
 
 pub put-head-spec : {M : Type 1} → statement M
 put-head-spec =

@@ -3,7 +3,7 @@ use native.Mathlib.Omega.{arith}
 use mathlib.Core.Path.{ap, _∙_}
 use lib.ListN.{length}
 use Rattle.laws.proofs.Put.{part-is, length-part, splice-is}
-use Rattle.image.specs.Encode.{version1, headOf}
+use Rattle.image.specs.Encode.{version2, headOf}
 use Rattle.image.proofs.Records.{headed-is}
 use Rattle.writing.proofs.Blocks.{image-law}
 use borrow.Author.Needs.{needs}
@@ -32,8 +32,8 @@ returns : tie.Need-returns
 returns c = let s = c .before .before .before .before .before .before .before .before .before .before in
     let a = s .args in
     cc (
-      splice-is (a .output .now) 0 512 {y = c .before .before .before .before .before .before .put-head .last .0} {b = headOf version1 (a .n) (a .m)} (omega arith)
-          (c .before .before .before .before .before .before .put-head .ensures ∙ headed-is version1 _ (a .n) (a .m) (ap length (part-is (a .output .now) 0 512) ∙ length-part (a .output .now) 0 512 (omega arith)))
+      splice-is (a .output .now) 0 512 {y = c .before .before .before .before .before .before .put-head .last .0} {b = headOf version2 (a .n) (a .m)} (omega arith)
+          (c .before .before .before .before .before .before .put-head .ensures ∙ headed-is version2 _ (a .n) (a .m) (ap length (part-is (a .output .now) 0 512) ∙ length-part (a .output .now) 0 512 (omega arith)))
           (c .before .before .before .before .before .before .put-head .kept .0),
       image-law (a .output .now) (a .memory .now) (a .n) (a .m) (search needs) (search needs) (search needs),
     )

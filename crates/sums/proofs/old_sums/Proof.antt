@@ -1,11 +1,11 @@
--- `sums::sum_words` meets its contract: the loop keeps both sums without the modulus, which is taken at the end.
+-- `sums::old_sums` meets its contract: the loop keeps both sums without the modulus, which is taken at the end.
 use mathlib.Core.Path.{_≡_, sym}
 use Prim.Native.Nat.{_+_, _*_, _-_, _≤_}
 use native.Mathlib.Omega.{arith}
 use Rattle.sums.proofs.Words.{plainA, plainB, plainA-none, plainB-none, plainA-more, plainB-more, sumA-plain, sumB-plain}
 use borrow.Author.Needs.{needs}
-use Rattle.sums.proofs.sum_words.Statement.{statement}
-use Rattle.sums.proofs.sum_words.Tie as tie
+use Rattle.sums.proofs.old_sums.Statement.{statement}
+use Rattle.sums.proofs.old_sums.Tie as tie
 
 abbrev Inv-loop : tie.InvT-loop
 Inv-loop block a₀ b₀ k₀ a b k = (k ≤ 254) × (a ≡ plainA block k) × (b ≡ plainB block k) × (a ≤ 1 + 65535 * k) × (b ≤ 16711681 * k)
@@ -48,8 +48,8 @@ returns c = let b = c .before .before .before .args .block .now in
     let e : c .before .loop .k ≡ 254 = omega arith in
     (cc (sumA-plain 65535 b 254 (omega arith)), cc (sumB-plain 65535 b 254 (omega arith)))
 
-pub sum-words-spec : {M : Type 1} → statement M
-sum-words-spec =
+pub old-sums-spec : {M : Type 1} → statement M
+old-sums-spec =
     tie.close
     (tie.spec
     Inv-loop
