@@ -10,8 +10,10 @@ use Rattle.tracker.specs.declared.Answer.{Answer}
 use Rattle.rules.specs.Run.{Call}
 use Rattle.cache.specs.declared.State.{State}
 use Rattle.session.specs.Session.{Starts, Session, said}
-use Rattle.image.specs.Test.{imageTest}
+use Rattle.image.specs.Encode.{version1}
+use Rattle.image.specs.Test.{versionIn, imageTest}
 use Rattle.image.specs.Calls.{writingAnswer, written, restoringRefusal, restored}
+use Rattle.archive.specs.Theorems.{TrueImage}
 use Rattle.demands.specs.Event.{events, AtRest}
 
 -- writing was accepted: its answer is no refusal
@@ -42,7 +44,9 @@ pub record Written (image : List ℕ) : Type 0 where
   pub bytes : Bytes memory
   pub writes : (output : List ℕ) → length output ≡ length image → Writes n memory output × (imageIn n memory output ≡ image)
 
--- an image is accepted only if it could, and if it could
+-- An image is accepted only if it could, and if it could. "Version 1 still reads by its old rule, and for it demand 2's last clause means the old writer."
 pub record AcceptedIfWritten : Type 0 where
-  pub only : (image : List ℕ) → Bytes image → imageTest 65535 1 image ≡ 0 → Written image
-  pub all : (image : List ℕ) → Written image → imageTest 65535 1 image ≡ 0
+  pub only : (image : List ℕ) → Bytes image → imageTest image ≡ 0 → (versionIn image ≡ 1 → ⊥) → Written image
+  pub all : (image : List ℕ) → Written image → imageTest image ≡ 0
+  pub old-only : (image : List ℕ) → Bytes image → imageTest image ≡ 0 → versionIn image ≡ 1 → TrueImage version1 image
+  pub old-all : (image : List ℕ) → TrueImage version1 image → imageTest image ≡ 0
