@@ -28,7 +28,7 @@ use Rattle.flat.proofs.Demand.{Runs, runs}
 use Rattle.session.specs.Session.{keptOf}
 use Rattle.session.proofs.Session.{session-says, session-leaves}
 use Rattle.circle.proofs.Circle.{trackerIn}
-use Rattle.demands.specs.Event.{Told, Event, events, eventAt, busyAfter, AtRest}
+use Rattle.demands.specs.Event.{Told, Event, events, eventAt, busyAfter, writtenFrom, AtRest}
 use Rattle.demands.specs.Row.{Row, told, rowAt}
 use Rattle.demands.specs.Demand2.{When, not-yet, at, Entry, rowOf, OneRow, Extends, Demand2}
 use Rattle.demands.specs.Circle.{other}
@@ -37,8 +37,9 @@ use Rattle.demands.proofs.Log.{Move, begins, ends, neither, moveOf, tur
 use Rattle.demands.proofs.Watch.{Watch, nothingYet, watched, logged, logOf}
 use Rattle.demands.proofs.Machine.{Linked, callsOf, History, linked, idle-none}
 use Rattle.demands.proofs.Start.{Begun, begun, session-values}
-use Rattle.demands.proofs.Noted.{true-idle, noted-run, busy-run}
+use Rattle.demands.proofs.Noted.{true-idle, Noted, noted-run, busy-run}
 use Rattle.demands.proofs.Quiet.{Quiet, quiet-run}
+use Rattle.demands.proofs.Drained.{drained-idle, drained-clean}
 use Rattle.demands.proofs.Extends.{onto-after, given-then}
 
 -- what the log says of any history
@@ -221,10 +222,13 @@ module _ (t : ℕ) (k : Kept) (B : Begun t k) (cs : List Call) (v32 : Values32 c
   last-is : (g : ℕ) → g < groups n → run .last g ≡ rowOf n (k .memory) (logOf w) (w .count) g
   last-is g l = ap (λ (z : Flat). z .row g) (sym (run .flat-is)) ∙ ap (λ (row : Row). row g) (v .row-is) ∙ rows-are g (w .count) l
 
+  first-noted : Noted k (λ y. other false)
+  first-noted = record { ready = (B .agrees .is-whole, B .agrees .right); is-so = λ y. ap isIdleAt (B .idle y) }
+
   -- a tracker that is not busy
   idle : (x : ℕ) → busyAfter es x ≡ false → isIdle (trackerIn (ended k cs) x) ≡ true
   idle x e =
-      let N = noted-run cs k (λ y. other false) (record { ready = (B .agrees .is-whole, B .agrees .right); is-so = λ y. ap isIdleAt (B .idle y) }) in
+      let N = noted-run cs k (λ y. other false) first-noted in
       true-idle (notedFrom (λ y. other false) es x) (trackerIn (ended k cs) x) (N .is-so x) (busy-run es (λ y. other false) (λ y. false) (λ y. refl) x ∙ e)
 
   pub resting : AtRest es → Resting n (ended k cs .memory) (run .last)
@@ -254,6 +258,10 @@ module _ (t : ℕ) (k : Kept) (B : Begun t k) (cs : List Call) (v32 : Values32 c
     one-issue = one-issue v;
     each-issue = λ i x a s e. each-issue v i x a (begins-within i x a (ap moveOf s)) (ap moveOf s)
         (idle-none _ (w .pend x) (whole-run .fits x) (ap (λ (f : Flat). isIdle (trackerAt (f .trackers) x)) (run .flat-is) ∙ idle x e));
+    after-drain = λ before e. record {
+      idle = λ x. sym (busy-run es (λ y. other false) (λ y. false) (λ y. refl) x) ∙ drained-idle before cs k (λ y. other false) first-noted e x;
+      clean = ap (writtenFrom false) e ∙ drained-clean before false;
+    };
     at-rest = λ r g l. let R = resting r in plain-is n (ended k cs .memory) g (R .limits) (R .long) l ∙ R .reads g ∙ last-is g l;
   }
 

@@ -7,6 +7,7 @@ pub mod Going
 pub mod Rounds
 pub mod Demand3
 pub mod Quiet
+pub mod Drained
 pub mod Extends
 pub mod Demand2
 pub mod Image

@@ -1,5 +1,12 @@
 -- Each call of 01 has one result, by its own contract: the answer and what it leaves equal a definition.
 use mathlib.Core.Path.{_≡_, sym, _∙_}
+use lib.ListN.{length}
+use Rattle.memory.specs.PlainReading.{plainReading}
+use Rattle.image.specs.Test.{imageTest}
+use Rattle.image.specs.Calls.{writingAnswer, written, restoringRefusal, restored}
+use Rattle.play.specs.Play.{plays}
+use Rattle.play.specs.Seen.{left}
+use Rattle.session.specs.Session.{keptOf}
 use Rattle.memory.proofs.plain_reading.Kinds as plain-reading-kinds
 use Rattle.memory.proofs.plain_reading.Reads as plain-reading
 use Rattle.cache.proofs.One.{did-one, bytes-one, memory-one}
@@ -34,7 +41,7 @@ use Rattle.play.proofs.refuse_all.Kinds as refuse-all-kinds
 use Rattle.play.proofs.refuse_all.Reads as refuse-all
 use Rattle.play.proofs.begin.Kinds as begin-kinds
 use Rattle.play.proofs.begin.Reads as begin
-use Rattle.demands.specs.Demand1.{OfAnyTwo}
+use Rattle.demands.specs.Demand1.{OfAnyTwo, OfAny}
 
 pub one-plain-reading : OfAnyTwo plain-reading-kinds.ps plain-reading-kinds.r plain-reading.Post (λ κs x y s t. x ≡ y)
 one-plain-reading κs a x y s t p q = p ∙ sym q
@@ -86,3 +93,23 @@ one-play-chunk κs a x y s t p q = one-play _ _ _ _ x y _ _ _ _ _ _ p q
 
 pub one-refuse-chunk : OfAnyTwo refuse-all-kinds.ps refuse-all-kinds.r refuse-all.Post (λ κs x y s t. (x ≡ y) × (s .1 .1 .0 .now ≡ t .1 .1 .0 .now))
 one-refuse-chunk κs a x y s t p q = one-refuse-all _ _ _ x y _ _ p q
+
+-- What the demands say of plain reading, of images and of a chunk of a script is said of these calls: the equation is the contract's own.
+pub plain-reading-is : OfAny plain-reading-kinds.ps plain-reading-kinds.r plain-reading.Post (λ κs a x s. x ≡ plainReading (a .0) (a .1 .0 .now) (a .1 .1 .0))
+plain-reading-is κs a x s p = p
+
+pub image-test-is : OfAny image-test-kinds.ps image-test-kinds.r image-test.Post (λ κs a x s. x ≡ imageTest 65535 1 (a .0 .now))
+image-test-is κs a x s p = p
+
+pub write-image-is : OfAny write-image-kinds.ps write-image-kinds.r write-image.Post
+    (λ κs a x s. (x ≡ writingAnswer (a .0) (a .1 .0 .now) (length (a .1 .1 .0 .now))) × (s .1 .1 .0 .now ≡ written (a .0) (a .1 .0 .now) (a .1 .1 .0 .now)))
+write-image-is κs a x s p = p
+
+pub restore-is : OfAny restore-kinds.ps restore-kinds.r restore.Post
+    (λ κs a x s. (x ≡ restoringRefusal (a .0 .now) (length (a .1 .0 .now))) × (s .1 .0 .now ≡ restored (a .0 .now) (a .1 .0 .now)))
+restore-is κs a x s p = p
+
+pub play-is : OfAny play-kinds.ps play-kinds.r play.Post
+    (λ κs a x s. left x (s .1 .1 .1 .0 .now) (s .1 .1 .1 .1 .0 .now) (s .1 .1 .1 .1 .1 .0 .now)
+    ≡ plays (keptOf (a .0) (a .1 .1 .1 .0 .now) (a .1 .1 .1 .1 .0 .now)) (a .1 .0) (a .1 .1 .0 .now) (a .1 .1 .1 .1 .1 .0 .now))
+play-is κs a x s p = p

@@ -122,6 +122,12 @@ unfolding does step
 clean-step k x s c e = unless-by {c = stepNo (k .state) (k .bytes) (k .memory) x} _ _ (λ (o : Out). Clean (o .state .lines))
     (λ _. clean-turn (k .state .n) (k .state .l) (k .state .hand) x (trackerIn k x) _ c e (whole-facts (k .state) (s .0) .tracked .phase-ok x)) (λ _. c)
 
+-- where all T trackers are idle every tracker is
+pub all-rest : (k : Kept) → Ready k → allIdle (k .state) ≡ true → (x : ℕ) → isIdle (trackerIn k x) ≡ true
+unfolding allIdle
+all-rest k s e x = ⊎-elim (λ (h : x < k .state .t). all-at (λ y. isIdle (trackerIn k y)) (k .state .t) e x h)
+    (λ (h : k .state .t ≤ x). whole-facts (k .state) (s .0) .tracked .above x h) (lt-or-ge x (k .state .t))
+
 -- every line is clean, and every access under way a read
 pub record Quiet (k : Kept) : Type 0 where
   pub clean : Clean (k .state .lines)
@@ -148,7 +154,7 @@ module _ (k : Kept) (row : Row) (a : Ok k row) (w : Bool) (Q : w ≡ false → Q
 
   -- an accepted drain
   drained-quiet : allIdle (k .state) ≡ true → Ready (kept (does k drains)) → Quiet (kept (does k drains))
-  unfolding does allIdle
+  unfolding does
   drained-quiet e s' =
       let is = drain-is (k .state) (k .bytes) (k .memory) (a .is-whole) (a .right) e in
       record {
@@ -156,12 +162,8 @@ module _ (k : Kept) (row : Row) (a : Ok k row) (w : Bool) (Q : w ≡ false → Q
             (λ (l : i < k .state .l). rw is (drains-all (a .agrees .good) (k .state .l) (omega arith) .clean i l))
             (λ (l : k .state .l ≤ i). ap changed (not-used _ (whole-facts _ (s' .0) .lined .above i (rw is l))) ∙ free-changed)
             (lt-or-ge i (k .state .l));
-        reads = λ x b. absurd (not-both-ways (rest x) (subst (λ (o : Out). isIdle (trackerAt (o .state .trackers) x) ≡ false) is b));
+        reads = λ x b. absurd (not-both-ways (all-rest k s e x) (subst (λ (o : Out). isIdle (trackerAt (o .state .trackers) x) ≡ false) is b));
       }
-    where
-      rest : (x : ℕ) → isIdle (trackerIn k x) ≡ true
-      rest x = ⊎-elim (λ (h : x < k .state .t). all-at (λ y. isIdle (trackerIn k y)) (k .state .t) e x h)
-          (λ (h : k .state .t ≤ x). whole-facts (k .state) (a .is-whole) .tracked .above x h) (lt-or-ge x (k .state .t))
 
   quiet-at : (c : Call) (o : Out) → Outcome k c o → Ready (kept o) → writtenBy (event c (o .said)) w ≡ false → Quiet (kept o)
   quiet-at c o (Calls.refused r q is) s' z = rw is (Q (subst (λ d. writtenBy (event c d) w ≡ false) q z))

@@ -1,13 +1,13 @@
 -- Replay prints the flat row's answers, proved: a line does what its call does, so the lines of all chunks are one run of the rules.
 use mathlib.Core.Path.{_≡_, refl, sym, ap, _∙_, subst}
-use mathlib.Core.Bool.{Bool, true}
+use mathlib.Core.Bool.{true}
 use mathlib.Core.List.{List, [], _∷_, _++_, append-assoc}
 use Prim.Native.Nat.{ℕ, zero, suc, _+_, _-_, _≤_, _<_, _^_}
 use native.Mathlib.Omega.{arith}
 use lib.Dec.{leb}
 use lib.ListN.{length, take, length-append}
 use borrow.Author.Tests.{leb-true}
-use Rattle.laws.specs.Choice.{pick, both}
+use Rattle.laws.specs.Choice.{both}
 use Rattle.laws.specs.Bytes.{part, splice}
 use Rattle.laws.proofs.Choice.{both-left, both-right, both-true}
 use Rattle.laws.proofs.Writes.{take-splice}
@@ -15,20 +15,20 @@ use Rattle.tracker.specs.Answer.{Said, no}
 use Rattle.text.specs.Text.{lineText}
 use Rattle.rules.specs.State.{lengthsRight}
 use Rattle.rules.specs.Whole.{whole}
-use Rattle.rules.specs.Calls.{Out, refused}
-use Rattle.rules.specs.Run.{Call, Kept, kept, does, answers, ended}
+use Rattle.rules.specs.Calls.{Out}
+use Rattle.rules.specs.Run.{Call, Kept, kept, answers, ended}
 use Rattle.flat.specs.Demand.{Values32}
 use Rattle.flat.proofs.Demand.{runs}
 use Rattle.cache.specs.declared.State.{State}
-use Rattle.session.specs.Session.{Starts, keptOf}
+use Rattle.session.specs.Session.{keptOf}
 use Rattle.script.specs.Script.{Asks, news, reads, writes, steps, drains, bad, spells, isNumeral, isDecimal, isHex, isLetter, isOrder, stepLine, newLine, readLine, writeLine, fields, ofFields, asksFor}
-use Rattle.script.proofs.Laws.{digitAt, spells-lt}
+use Rattle.script.proofs.Laws.{spells-lt}
 use Rattle.play.specs.Play.{Played, follows, goesOn, lineEnd, lineDone, starts, plays}
-use Rattle.play.specs.Lines.{asked, saidBy, leftBy, textOf, Becomes}
+use Rattle.play.specs.Lines.{asked, saidBy, leftBy, textOf}
 use Rattle.play.proofs.Texts.{plays-becomes}
 use Rattle.demands.specs.Event.{events}
-use Rattle.demands.specs.Demand2.{Log, OneRow}
-use Rattle.demands.specs.Replay.{callFor, callsFor, saysFor, firstOf, restOf, linesSay, Replays, begun, chunk, ReplayPrints}
+use Rattle.demands.specs.Demand2.{OneRow}
+use Rattle.demands.specs.Replay.{callFor, callsFor, linesSay, Replays, begun, chunk, ReplayPrints}
 use Rattle.demands.proofs.Machine.{pick-by}
 use Rattle.demands.proofs.Start.{Begun}
 use Rattle.demands.proofs.Start as Start

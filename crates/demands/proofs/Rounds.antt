@@ -26,24 +26,24 @@ abbrev tailOf : List Event → List Event
 tailOf [] = []
 tailOf (a ∷ xs) = xs
 
-heads : {a b : Event} {xs ys : List Event} → a ∷ xs ≡ b ∷ ys → a ≡ b
+pub heads : {a b : Event} {xs ys : List Event} → a ∷ xs ≡ b ∷ ys → a ≡ b
 heads e = ap (headOr Event.refused) e
 
-tails : {a b : Event} {xs ys : List Event} → a ∷ xs ≡ b ∷ ys → xs ≡ ys
+pub tails : {a b : Event} {xs ys : List Event} → a ∷ xs ≡ b ∷ ys → xs ≡ ys
 tails e = ap tailOf e
 
-no-cons : {a : Event} {xs : List Event} → _≡_ {A = List Event} (a ∷ xs) [] → ⊥
+pub no-cons : {a : Event} {xs : List Event} → _≡_ {A = List Event} (a ∷ xs) [] → ⊥
 no-cons e = let z : _≡_ {A = ℕ} 0 1 = cc in omega arith
 
 -- the events of the calls cs from k
-abbrev seen : Kept → List Call → List Event
+abbrev pub seen : Kept → List Call → List Event
 seen k cs = events cs (answers k cs)
 
-seen-none : (k : Kept) → seen k [] ≡ []
+pub seen-none : (k : Kept) → seen k [] ≡ []
 unfolding events
 seen-none k = refl
 
-seen-more : (k : Kept) (c : Call) (cs : List Call) → seen k (c ∷ cs) ≡ event c (does k c .said) ∷ seen (kept (does k c)) cs
+pub seen-more : (k : Kept) (c : Call) (cs : List Call) → seen k (c ∷ cs) ≡ event c (does k c .said) ∷ seen (kept (does k c)) cs
 unfolding events answers
 seen-more k c cs = refl
 

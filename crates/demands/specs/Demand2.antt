@@ -2,7 +2,7 @@
 -- issues, steps and drains, the answers are those of a flat row of tags, at first as that memory reads, on which the accesses are done whole, one after another, each at a moment
 -- between its issue and its end. Once all trackers are idle and the cache is drained, the memory read by the published two-level map rule shows that row."
 use mathlib.Core.Path.{_≡_}
-use mathlib.Core.List.{List, _++_}
+use mathlib.Core.List.{List, [], _∷_, _++_}
 use mathlib.Core.Bool.{false}
 use Prim.Native.Nat.{ℕ, _≤_, _<_}
 use lib.ListN.{length}
@@ -13,7 +13,7 @@ use Rattle.tracker.specs.declared.Answer.{Answer}
 use Rattle.rules.specs.Run.{Call}
 use Rattle.cache.specs.declared.State.{State}
 use Rattle.session.specs.Session.{Starts, Session, said}
-use Rattle.demands.specs.Event.{Told, Event, begins, ends, events, eventAt, TurnOf, busyAfter, AtRest}
+use Rattle.demands.specs.Event.{Told, Event, begins, ends, drained, events, eventAt, TurnOf, busyAfter, AtRest}
 use Rattle.demands.specs.Row.{Row, told, rowAt}
 
 -- An access that took effect: its tracker, itself as its issue named it, and the numbers of the calls where it was issued, took effect, and ended, if it has.
@@ -55,7 +55,8 @@ pub record OneRow (n : ℕ) (memory : List ℕ) (es : List Event) (memory' : Lis
   pub one-issue : (p q : ℕ) → p < log .count → q < log .count → log .entry p .issued ≡ log .entry q .issued → p ≡ q
   pub each-issue : (i x : ℕ) (a : Access) → eventAt es i ≡ begins x a → busyAfter es x ≡ false
       → (p j : ℕ) × (p < log .count) × (log .entry p .issued ≡ i) × (log .entry p .ending ≡ at j)
-  -- at rest, the published plain reading shows the row
+  -- after an accepted drain it is at rest; at rest, the published plain reading shows the row
+  pub after-drain : (before : List Event) → es ≡ before ++ (drained ∷ []) → AtRest es
   pub at-rest : AtRest es → (g : ℕ) → g < groups n → plainReading n memory' g ≡ rowOf n memory log (log .count) g
 
 -- an entry with another end

@@ -1,10 +1,8 @@
 -- Replay prints the flat row's answers: what it prints after line 1 are the texts of what the calls of one run said, and that run is one of demand 2's.
 use mathlib.Core.Path.{_≡_}
-use mathlib.Core.Bool.{Bool, true, false}
 use mathlib.Core.List.{List, [], _∷_, _++_}
 use Prim.Native.Nat.{ℕ}
 use lib.ListN.{length, take}
-use Rattle.laws.specs.Choice.{pick}
 use Rattle.tracker.specs.Tracker.{readOf, writeOf}
 use Rattle.tracker.specs.Answer.{Said, no}
 use Rattle.rules.specs.Run.{Call, issues}
