@@ -98,7 +98,7 @@ one-refuse-chunk κs a x y s t p q = one-refuse-all _ _ _ x y _ _ p q
 pub plain-reading-is : OfAny plain-reading-kinds.ps plain-reading-kinds.r plain-reading.Post (λ κs a x s. x ≡ plainReading (a .0) (a .1 .0 .now) (a .1 .1 .0))
 plain-reading-is κs a x s p = p
 
-pub image-test-is : OfAny image-test-kinds.ps image-test-kinds.r image-test.Post (λ κs a x s. x ≡ imageTest 65535 1 (a .0 .now))
+pub image-test-is : OfAny image-test-kinds.ps image-test-kinds.r image-test.Post (λ κs a x s. x ≡ imageTest (a .0 .now))
 image-test-is κs a x s p = p
 
 pub write-image-is : OfAny write-image-kinds.ps write-image-kinds.r write-image.Post
