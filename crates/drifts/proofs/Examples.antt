@@ -4,10 +4,10 @@ use mathlib.Core.Path.{_≡_, refl}
 use mathlib.Core.Bool.{false}
 use mathlib.Core.List.{List, [], _∷_, _++_}
 use Rattle.laws.specs.Choice.{both, either}
-use Rattle.laws.specs.Scan.{all, first}
+use Rattle.laws.specs.Scan.{all, first, count}
 use Rattle.printed.specs.Line.{alikeAt, hasAt, endsAt, digitOf, digitAt, digitsFrom, numberAt, lastOf, hexOf, valueAt, okWord, turnsWord, doneWord, sameWord, readWord, inWord, outWord, closesAt, plainAt, readsAt, countAt, outOf, restAt, endingOf, answerAt, afterNumber, lineOf, isLine}
 use Rattle.printed.specs.declared.Line.the-variants.{Ending}
-use Rattle.drifts.specs.Count.{count, sum, largest}
+use Rattle.drifts.specs.Count.{sum, largest}
 use Rattle.drifts.specs.Pair.{sameFrom, sameBytes, otherPair, endingPair, pairEnding, pairLines, pairOf, driftOf}
 use Rattle.drifts.specs.Sheet.{places, pairAt, endings, drifted, farthest, farthestLine, total, changed, sheet, sheetOf}
 

@@ -11,11 +11,11 @@ use native.Mathlib.Numerals.{add-one}
 use native.Mathlib.Omega.{arith}
 use borrow.Author.Tests.{lt-ltb, le-ltb, eq-eqb, ne-eqb, ltb-true, ltb-false}
 use lib.Dec.{ltb, eqb}
-use Rattle.laws.specs.Choice.{pick}
-use Rattle.laws.specs.Scan.{first}
+use Rattle.laws.specs.Choice.{pick, one}
+use Rattle.laws.specs.Scan.{first, count}
 use Rattle.laws.proofs.Choice.{not-both-ways}
 use Rattle.laws.proofs.Scan.{first-≤, first-hit, first-is, first-holds, first-before, first-none, none-first}
-use Rattle.drifts.specs.Count.{one, count, sum, largest}
+use Rattle.drifts.specs.Count.{sum, largest}
 use Rattle.drifts.specs.Pair.{driftOf}
 use Rattle.drifts.specs.Sheet.{stay, places, pairAt, endings, drifted, farthest, farthestLine, total, changed, sheet, sheetOf, noTally, added, tallied}
 use Rattle.drifts.specs.declared.Pair.{Pair}

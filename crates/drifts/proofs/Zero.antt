@@ -9,11 +9,10 @@ use borrow.Author.Tests.{lt-ltb, ltb-true, ltb-false, eq-eqb, eqb-true, le-leb, 
 use lib.Dec.{ltb, leb, eqb}
 use lib.ListN.{length, getD}
 use lib.Seq.{ext-getD}
-use Rattle.laws.specs.Choice.{pick, both}
-use Rattle.laws.specs.Scan.{all}
+use Rattle.laws.specs.Choice.{pick, both, one}
+use Rattle.laws.specs.Scan.{all, count}
 use Rattle.laws.proofs.Choice.{not-both-ways, both-true, both-left, both-right}
 use Rattle.laws.proofs.Scan.{all-at, all-is}
-use Rattle.drifts.specs.Count.{one, count}
 use Rattle.printed.specs.Line.{alikeAt, lineOf}
 use Rattle.drifts.specs.Pair.{sameFrom, sameBytes, otherPair, endingPair, pairEnding, pairLines, pairOf, onePair, driftOf}
 use Rattle.drifts.specs.Sheet.{places, pairAt, drifted, changed}

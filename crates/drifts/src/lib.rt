@@ -2,7 +2,7 @@
 // No public function has a `requires`. A line is its bytes, newline apart.
 ghost use mathlib.Core.Path.{_≡_};
 ghost use Prim.Native.Nat.{_+_, _-_};
-ghost use Rattle.drifts.specs.Count.{one};
+ghost use Rattle.laws.specs.Choice.{one};
 ghost use Rattle.drifts.specs.Pair.{sameFrom, sameBytes, otherPair, endingPair, pairEnding, pairOf, onePair, driftOf};
 ghost use Rattle.drifts.specs.Sheet.{stay, noTally, added};
 use printed::Line;
