@@ -1,4 +1,4 @@
-/* The two calls of include/tags.h from C, with right and wrong numbers and lengths.
+/* Calls of include/tags.h from C, with right and wrong numbers and lengths.
  * Each expected value is worked out by hand from the paper. Prints each check that fails,
  * then their number; the exit status is 0 only if all hold. */
 
@@ -131,6 +131,46 @@ static void largest(void)
     free(m);
 }
 
+/* Nine leaves, so two map bytes: groups 5 (leaf 0) and 127 (leaf 7) are tagged, and 129 (leaf 8); leaf 3 is stale. */
+static void between(void)
+{
+    enum { LENGTH = 64 * 10 };
+    uint8_t *m = blank(9, LENGTH);
+    memset(m, 0, 64 * 9);
+    memset(m + 64 * 3, 0xee, 64);
+    m[4 * 5] = 1, m[4 * 127 + 3] = 0x80, m[4 * 129 + 1] = 7;
+    m[64 * 9] = 0x81, m[64 * 9 + 1] = 0x01;
+
+    SAME(tag_first_tagged(9, m, LENGTH, 0, 144), 5);
+    SAME(tag_first_tagged(9, m, LENGTH, 5, 144), 5);   /* A itself */
+    SAME(tag_first_tagged(9, m, LENGTH, 5, 5), TAG_NONE);
+    SAME(tag_first_tagged(9, m, LENGTH, 0, 5), TAG_NONE); /* B itself is not asked */
+    SAME(tag_first_tagged(9, m, LENGTH, 0, 6), 5);
+    SAME(tag_first_tagged(9, m, LENGTH, 6, 144), 127); /* over the stale leaf */
+    SAME(tag_first_tagged(9, m, LENGTH, 128, 144), 129);
+    SAME(tag_first_tagged(9, m, LENGTH, 130, 144), TAG_NONE);
+    SAME(tag_tagged_leaves(9, m, LENGTH, 0, 144), 3);
+    SAME(tag_tagged_leaves(9, m, LENGTH, 15, 113), 2); /* leaves 0 and 7 */
+    SAME(tag_tagged_leaves(9, m, LENGTH, 16, 112), 0); /* leaves 1 to 6 */
+    SAME(tag_tagged_leaves(9, m, LENGTH, 127, 129), 2); /* leaves 7 and 8 */
+    SAME(tag_tagged_leaves(9, m, LENGTH, 0, 1), 1);
+    SAME(tag_tagged_leaves(9, m, LENGTH, 0, 0), 0);
+    SAME(tag_tagged_leaves(9, m, LENGTH, 144, 144), 0);
+
+    SAME(tag_first_tagged(0, m, LENGTH, 1, 0), refused(TAG_LIMITS));
+    SAME(tag_first_tagged(9, m, LENGTH - 1, 1, 0), refused(TAG_LENGTH));
+    SAME(tag_first_tagged(9, m, LENGTH, 1, 0), refused(TAG_GROUP));
+    SAME(tag_first_tagged(9, m, LENGTH, 0, 145), refused(TAG_GROUP));
+    SAME(tag_tagged_leaves(9, m, LENGTH, 145, 145), refused(TAG_GROUP));
+    m[64 * 9 + 1] = 0x03; /* the bit of a leaf that does not exist */
+    SAME(tag_first_tagged(9, m, LENGTH, 1, 0), refused(TAG_UNTRUE));
+    SAME(tag_tagged_leaves(9, m, LENGTH, 0, 144), refused(TAG_UNTRUE));
+    SAME(tag_first_tagged_as_true(9, m, LENGTH, 0, 144), 5);
+    SAME(tag_tagged_leaves_as_true(9, m, LENGTH, 0, 144), 3);
+    SAME(tag_first_tagged_as_true(9, m, LENGTH, 1, 0), refused(TAG_GROUP));
+    free(m);
+}
+
 /* Make the check of one block right: modulo 65535 in version 1, else modulo 65536. */
 static void seal(unsigned version, uint8_t *block)
 {
@@ -218,6 +258,7 @@ int main(void)
     one_leaf();
     map_ends();
     largest();
+    between();
     images();
     printf("host.c: %u checks, %u failed\n", checks, failures);
     return failures != 0;

@@ -1,4 +1,4 @@
-// The two calls of include/tags.h from C++, with what each gives where it is accepted and each refusal. Each expected value is
+// Plain reading and the image test of include/tags.h from C++, with what each gives where it is accepted and each refusal. Each expected value is
 // worked out by hand from the paper. Prints each check that fails, then their number; the exit status is 0 only if all hold.
 
 #include <cstdio>

@@ -1,4 +1,4 @@
-//! The two exports of libhost.a against the model: plain reading on random bytes, true or
+//! Two exports of libhost.a against the model: plain reading on random bytes, true or
 //! not, with every refusal; the image test on images of random true memories and on every
 //! damage that `draw` knows. `host DRIVER [SEED]`, in the root of the repository, with the
 //! driver of `tests/host_calls.c`; ends with `host: N checks`, status 1 on the first

@@ -16,6 +16,25 @@ pub leafOf-ge : (n g : ℕ) → groups n ≤ g → n ≤ leafOf g
 unfolding leafOf groups
 leafOf-ge n g h = omega arith
 
+-- leaves rise with their groups, and groups with their leaves
+pub leafOf-≤ : (g h : ℕ) → g ≤ h → leafOf g ≤ leafOf h
+unfolding leafOf
+leafOf-≤ g h l = omega arith
+
+pub groups-≤ : (k n : ℕ) → k ≤ n → groups k ≤ groups n
+unfolding groups
+groups-≤ k n h = omega arith
+
+-- the first group of a group's leaf
+pub groups-leafOf : (g : ℕ) → groups (leafOf g) ≤ g
+unfolding leafOf groups
+groups-leafOf g = omega arith
+
+-- every group has a number of 32 bits
+pub groups-most : (n : ℕ) → n ≤ 262144 → groups n ≤ 4194304
+unfolding groups
+groups-most n h = omega arith
+
 -- a group below 16n, from its leaf
 pub group-lt : (n g : ℕ) → leafOf g < n → g < groups n
 unfolding leafOf groups
@@ -88,6 +107,15 @@ mapBitOf-lt k = omega arith
 pub mapPlace-is : (n k : ℕ) → mapPlace n k ≡ 64 * n + k / 8
 unfolding mapBlockOf mapByteOf
 mapPlace-is n k = omega arith
+
+-- the leaves of the map's byte j
+pub mapPlace-byte : (n j i : ℕ) → i < 8 → mapPlace n (8 * j + i) ≡ blockPlace n + j
+unfolding mapBlockOf mapByteOf
+mapPlace-byte n j i h = omega arith
+
+pub mapBitOf-byte : (j i : ℕ) → i < 8 → mapBitOf (8 * j + i) ≡ i
+unfolding mapBitOf
+mapBitOf-byte j i h = omega arith
 
 -- a place tells its leaf: byte and bit together
 pub mapPlace-same : (n k l : ℕ) → mapPlace n k ≡ mapPlace n l → mapBitOf k ≡ mapBitOf l → k ≡ l

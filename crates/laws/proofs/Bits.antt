@@ -1,9 +1,16 @@
 -- Laws of bits.
 use mathlib.Core.Path.{_≡_, refl, ap, sym, _∙_}
+use mathlib.Core.Bool.{Bool}
 use Prim.Native.Nat.{ℕ, zero, suc, _+_, _-_, _*_, _/_, _%_, _^_, _≤_, _<_}
-use native.Mathlib.Nat.{pow-succ', div-div-eq-div-mul}
+use native.Mathlib.Nat.{pow-succ', div-div-eq-div-mul, div-add-mod', div-le-self, mod-lt}
 use native.Mathlib.Omega.{arith}
+use lib.Count.{ones, ones-step, ones-le, ones-cat}
+use lib.Dec.{eqb}
+use lib.Pow.{pow-add, pow-pos, shr-lt}
+use Rattle.laws.specs.Choice.{one}
 use Rattle.laws.specs.Bits.{bitOf, withBit}
+use Rattle.laws.specs.Scan.{count, countFrom}
+use Rattle.laws.proofs.Scan.{count-front, countFrom-0, countFrom-add, countFrom-shift, countFrom-same}
 
 -- what holds at each of 0 to 7 holds below 8
 pub cases8 : (P : ℕ → Type 0) → P 0 → P 1 → P 2 → P 3 → P 4 → P 5 → P 6 → P 7 → (k : ℕ) → k < 8 → P k
@@ -19,6 +26,13 @@ cases8 P a b c d e f g h (suc (suc (suc (suc (suc (suc (suc (suc k)))))))) l = a
 
 pub pow-small : (k : ℕ) → k < 8 → 1 * 2 ^ k % 256 ≡ 2 ^ k
 pow-small = cases8 (λ k. 1 * 2 ^ k % 256 ≡ 2 ^ k) refl refl refl refl refl refl refl refl
+
+-- a byte's bits below w, as code takes them
+pub low-all : (x w : ℕ) → x < 256 → w ≡ 8 → x ≡ x % 2 ^ w
+low-all x w h e = rw e (omega arith)
+
+pub low-some : (x w : ℕ) → w < 8 → x % (1 * 2 ^ w % 256) ≡ x % 2 ^ w
+low-some x w h = rw (pow-small w h)
 
 pub bitOf-lt : (x k : ℕ) → bitOf x k < 2
 unfolding bitOf
@@ -80,3 +94,56 @@ pub bitOf-0 : (k : ℕ) → bitOf 0 k ≡ 0
 unfolding bitOf
 bitOf-0 zero = refl
 bitOf-0 (suc k) = bitOf-0 k
+
+-- bit i of x is 1
+abbrev pub isSet : ℕ → ℕ → Bool
+isSet x i = eqb (bitOf x i) 1
+
+one-bit : (b : ℕ) → b < 2 → one (eqb b 1) ≡ b
+one-bit zero l = refl
+one-bit (suc zero) l = refl
+one-bit (suc (suc b)) l = absurd (omega arith)
+
+-- the count of ones, bit by bit
+pub ones-count : (w x : ℕ) → x < 2 ^ w → ones x ≡ count (isSet x) w
+unfolding bitOf count
+ones-count zero x h = let z : ones x ≤ 0 = ones-le 0 x h in omega arith
+ones-count (suc w) x h =
+    let l : x / 2 < 2 ^ w = omega (arith, pow-succ' 2 w) in
+    let b : one (eqb (x % 2) 1) ≡ x % 2 = one-bit (x % 2) (omega arith) in
+    ones-step x ∙ rw (ones-count w (x / 2) l) (sym (count-front (isSet x) w ∙ rw b))
+
+bitOf-shr : (x s i : ℕ) → bitOf (x / 2 ^ s) i ≡ bitOf x (s + i)
+bitOf-shr x s i = bitOf-shift (x / 2 ^ s) i ∙ rw (div-div-eq-div-mul x (2 ^ s) (2 ^ i), ← pow-add 2 s i) (sym (bitOf-shift x (s + i)))
+
+-- the bits below w, and those from w on
+count-bits : (x w u : ℕ) → count (isSet x) (w + u) ≡ count (isSet x) w + count (isSet (x / 2 ^ w)) u
+count-bits x w u =
+    let z : w + 0 ≡ w = omega arith in
+    let e : countFrom (isSet x) w (w + u) ≡ countFrom (λ (i : ℕ). isSet x (w + i)) 0 u = rw z at (countFrom-shift (isSet x) w 0 u) in
+    let f : countFrom (λ (i : ℕ). isSet x (w + i)) 0 u ≡ countFrom (isSet (x / 2 ^ w)) 0 u =
+    countFrom-same (λ (i : ℕ). isSet x (w + i)) (isSet (x / 2 ^ w)) 0 u (λ k g l. ap (λ (b : ℕ). eqb b 1) (sym (bitOf-shr x w k))) in
+    sym (countFrom-0 (isSet x) (w + u)) ∙ countFrom-add (isSet x) 0 w (w + u) (omega arith) (omega arith)
+    ∙ rw (countFrom-0 (isSet x) w, e, f, countFrom-0 (isSet (x / 2 ^ w)) u)
+
+-- the ones below bit w
+ones-low : (x w u : ℕ) → x < 2 ^ (u + w) → ones (x % 2 ^ w) ≡ count (isSet x) w
+ones-low x w u h =
+    let e : w + u ≡ u + w = omega arith in
+    let a : ones x ≡ count (isSet x) (w + u) = ones-count (w + u) x (rw e h) in
+    let b : ones (x / 2 ^ w) ≡ count (isSet (x / 2 ^ w)) u = ones-count u (x / 2 ^ w) (shr-lt u w h) in
+    let c : ones x ≡ ones (x / 2 ^ w) + ones (x % 2 ^ w) = ap ones (sym (div-add-mod' x (2 ^ w))) ∙ ones-cat w (x / 2 ^ w) (x % 2 ^ w) (mod-lt x (pow-pos w)) in
+    omega (arith, count-bits x w u)
+
+-- the ones of a byte from bit s on below bit t: "masked at both ends"
+pub ones-between : (x s t : ℕ) → x < 256 → s ≤ t → t ≤ 8 → ones (x / 2 ^ s % 2 ^ (t - s)) ≡ countFrom (isSet x) s t
+ones-between x s t h l m =
+    let w = t - s in
+    let z = x / 2 ^ s in
+    let e : 8 - w + w ≡ 8 = omega arith in
+    let d : z < 2 ^ (8 - w + w) = rw e (omega (arith, div-le-self x (2 ^ s))) in
+    let a : s + 0 ≡ s = omega arith in
+    let b : s + w ≡ t = omega arith in
+    let f : countFrom (isSet x) s t ≡ countFrom (λ (i : ℕ). isSet x (s + i)) 0 w = rw (a, b) at (countFrom-shift (isSet x) s 0 w) in
+    ones-low z w (8 - w) d ∙ sym (countFrom-0 (isSet z) w)
+    ∙ countFrom-same (isSet z) (λ (i : ℕ). isSet x (s + i)) 0 w (λ k g q. ap (λ (y : ℕ). eqb y 1) (bitOf-shr x s k)) ∙ sym f

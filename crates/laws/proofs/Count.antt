@@ -7,8 +7,9 @@ use native.Mathlib.Nat.{eq-or-lt-of-le}
 use native.Mathlib.Omega.{arith}
 use borrow.Author.Tests.{eq-eqb}
 use lib.Dec.{eqb}
-use Rattle.laws.specs.Scan.{first}
-use Rattle.laws.specs.Count.{one, count, largest}
+use Rattle.laws.specs.Choice.{one}
+use Rattle.laws.specs.Scan.{first, count}
+use Rattle.laws.specs.Count.{largest}
 use Rattle.laws.proofs.Splice.{lt-or-ge}
 use Rattle.laws.proofs.Scan.{first-some, first-suc-old}
 
@@ -22,13 +23,6 @@ count-zero p zero k e l = absurd (omega arith)
 count-zero p (suc n) k e l =
     let le : k ≤ n = omega arith in
     ⊎-elim (λ (q : k ≡ n). rw q (one-zero (p n) (omega arith))) (λ (m : k < n). count-zero p n k (omega arith) m) (eq-or-lt-of-le le)
-
-pub count-none : (p : ℕ → Bool) (n : ℕ) → ((k : ℕ) → k < n → p k ≡ false) → count p n ≡ 0
-unfolding count
-count-none p zero h = refl
-count-none p (suc n) h =
-    let e : one (p n) ≡ 0 = ap one (h n (omega arith)) in
-    omega (arith, count-none p n (λ k l. h k (omega arith)))
 
 pub largest-zero : (f : ℕ → ℕ) → largest f 0 ≡ 0
 unfolding largest

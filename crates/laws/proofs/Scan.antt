@@ -6,11 +6,12 @@ use Prim.Native.Nat.{ℕ, zero, suc, _+_, _≤_, _<_}
 use native.Mathlib.Nat.{eq-or-lt-of-le, le-of-suc-le-suc}
 use native.Mathlib.Numerals.{add-one}
 use native.Mathlib.Omega.{arith}
-use lib.Dec.{ltb}
-use borrow.Author.Tests.{lt-ltb, le-ltb, ltb-true, ltb-false}
-use Rattle.laws.specs.Choice.{pick, both}
-use Rattle.laws.specs.Scan.{first, all}
-use Rattle.laws.proofs.Choice.{not-both-ways, true-or-false, both-left, both-right, both-true, both-false-right}
+use lib.Dec.{leb}
+use borrow.Author.Tests.{lt-ltb, le-ltb, le-leb, lt-leb, leb-true}
+use Rattle.laws.specs.Choice.{both, one}
+use Rattle.laws.specs.Scan.{first, all, count, from, firstFrom, countFrom}
+use Rattle.laws.proofs.Choice.{not-both-ways, true-or-false, both-left, both-right, both-true, both-when, both-false-left}
+use Rattle.laws.proofs.Splice.{lt-or-ge}
 
 module _ (p : ℕ → Bool) where
   pub first-zero : first p 0 ≡ 0
@@ -128,3 +129,136 @@ pub all-same : (p q : ℕ → Bool) (n : ℕ) → ((k : ℕ) → k < n → p k �
 unfolding all
 all-same p q zero h = refl
 all-same p q (suc n) h = rw (all-same p q n (λ k l. h k (omega arith)), h n (omega arith))
+
+-- a test from a on
+module _ (p : ℕ → Bool) (a : ℕ) where
+  from-is : (k : ℕ) → a ≤ k → from a p k ≡ p k
+  from-is k h = both-when (leb a k) (p k) (le-leb a k h)
+
+  from-before : (k : ℕ) → k < a → from a p k ≡ false
+  from-before k h = both-false-left (leb a k) (p k) (lt-leb a k h)
+
+  from-not : (k : ℕ) → (a ≤ k → p k ≡ false) → from a p k ≡ false
+  from-not k f = ⊎-elim (λ l. from-before k l) (λ h. from-is k h ∙ f h) (lt-or-ge k a)
+
+-- two tests that agree from a on below n agree there from a on
+from-same : (p q : ℕ → Bool) (a k : ℕ) → (a ≤ k → p k ≡ q k) → from a p k ≡ from a q k
+from-same p q a k h =
+    ⊎-elim (λ l. from-before p a k l ∙ sym (from-before q a k l)) (λ g. from-is p a k g ∙ h g ∙ sym (from-is q a k g)) (lt-or-ge k a)
+
+-- where p does not hold from a on below c, it is all one from a on and from c on
+from-later : (p : ℕ → Bool) (a c k : ℕ) → a ≤ c → (k < c → a ≤ k → p k ≡ false) → from c p k ≡ from a p k
+from-later p a c k h f = ⊎-elim (λ l. from-before p c k l ∙ sym (from-not p a k (f l)))
+    (λ g. from-is p c k g ∙ sym (from-is p a k (omega arith))) (lt-or-ge k c)
+
+module _ (p : ℕ → Bool) where
+  pub firstFrom-≤ : (a n : ℕ) → firstFrom p a n ≤ n
+  unfolding firstFrom
+  firstFrom-≤ a n = first-≤ (from a p) n
+
+  pub firstFrom-holds : (a n : ℕ) → firstFrom p a n < n → p (firstFrom p a n) ≡ true
+  unfolding firstFrom
+  firstFrom-holds a n l = both-right (leb a (first (from a p) n)) (p (first (from a p) n)) (first-holds (from a p) n l)
+
+  pub firstFrom-≥ : (a n : ℕ) → a ≤ n → a ≤ firstFrom p a n
+  unfolding firstFrom
+  firstFrom-≥ a n h = ⊎-elim
+      (λ (l : first (from a p) n < n). leb-true a (first (from a p) n) (both-left (leb a (first (from a p) n)) (p (first (from a p) n)) (first-holds (from a p) n l)))
+      (λ (l : n ≤ first (from a p) n). omega arith) (lt-or-ge (first (from a p) n) n)
+
+  -- it holds at none before it
+  pub firstFrom-before : (a n k : ℕ) → a ≤ k → k < firstFrom p a n → p k ≡ false
+  unfolding firstFrom
+  firstFrom-before a n k h l = sym (from-is p a k h) ∙ first-before (from a p) n k l
+
+  -- it holds at a
+  pub firstFrom-hit : (a n : ℕ) → a < n → p a ≡ true → firstFrom p a n ≡ a
+  unfolding firstFrom
+  firstFrom-hit a n l t = first-is (from a p) n a l (from-is p a a (omega arith) ∙ t) (λ k q. from-before p a k q)
+
+  -- it holds at none
+  pub firstFrom-none : (a n : ℕ) → ((k : ℕ) → a ≤ k → k < n → p k ≡ false) → firstFrom p a n ≡ n
+  unfolding firstFrom
+  firstFrom-none a n f = first-none (from a p) n (λ k l. from-not p a k (λ h. f k h l))
+
+  -- it holds at none from a on below c: the search goes on from c
+  pub firstFrom-skip : (a c n : ℕ) → a ≤ c → ((k : ℕ) → a ≤ k → k < c → p k ≡ false) → firstFrom p c n ≡ firstFrom p a n
+  unfolding firstFrom
+  firstFrom-skip a c n h f = first-same (from c p) (from a p) n (λ k l. from-later p a c k h (λ q g. f k g q))
+
+module _ (p : ℕ → Bool) (a c n : ℕ) where
+  -- one that is found below c is found below n
+  pub firstFrom-short : c ≤ n → firstFrom p a c < c → firstFrom p a n ≡ firstFrom p a c
+  unfolding firstFrom
+  firstFrom-short h l = first-is (from a p) n (first (from a p) c) (omega arith) (first-holds (from a p) c l) (λ k q. first-before (from a p) c k q)
+
+  -- where none is found below c, the search goes on from c
+  pub firstFrom-go-on : a ≤ c → c ≤ firstFrom p a c → firstFrom p c n ≡ firstFrom p a n
+  firstFrom-go-on h l = firstFrom-skip p a c n h (λ k g q. firstFrom-before p a c k g (omega arith))
+
+pub count-same : (p q : ℕ → Bool) (n : ℕ) → ((k : ℕ) → k < n → p k ≡ q k) → count p n ≡ count q n
+unfolding count
+count-same p q zero h = refl
+count-same p q (suc n) h = rw (count-same p q n (λ k l. h k (omega arith)), h n (omega arith))
+
+-- the first by itself
+pub count-front : (p : ℕ → Bool) (n : ℕ) → count p (suc n) ≡ one (p 0) + count (λ (i : ℕ). p (suc i)) n
+unfolding count
+count-front p zero = omega arith
+count-front p (suc n) = let ih : count p (suc n) ≡ one (p 0) + count (λ (i : ℕ). p (suc i)) n = count-front p n in omega arith
+
+pub count-none : (p : ℕ → Bool) (n : ℕ) → ((k : ℕ) → k < n → p k ≡ false) → count p n ≡ 0
+unfolding count
+count-none p zero f = refl
+count-none p (suc n) f = rw (count-none p n (λ k l. f k (omega arith)), f n (omega arith))
+
+pub countFrom-none : (p : ℕ → Bool) (a n : ℕ) → ((k : ℕ) → a ≤ k → k < n → p k ≡ false) → countFrom p a n ≡ 0
+unfolding countFrom
+countFrom-none p a n f = count-none (from a p) n (λ k l. from-not p a k (λ h. f k h l))
+
+one-≤ : (b : Bool) → one b ≤ 1
+one-≤ true = omega arith
+one-≤ false = omega arith
+
+module _ (p : ℕ → Bool) where
+  countFrom-suc : (a n : ℕ) → a ≤ n → countFrom p a (suc n) ≡ countFrom p a n + one (p n)
+  unfolding countFrom count
+  countFrom-suc a n h = rw (from-is p a n h)
+
+  countFrom-past : (a n : ℕ) → n ≤ a → countFrom p a n ≡ 0
+  countFrom-past a n h = countFrom-none p a n (λ k g l. absurd (omega arith))
+
+  -- there are no more than there are numbers
+  pub countFrom-most : (a n : ℕ) → a ≤ n → countFrom p a n + a ≤ n
+  countFrom-most a zero h = omega (arith, countFrom-past a 0 (omega arith))
+  countFrom-most a (suc n) h = ⊎-elim
+      (λ (l : n < a). omega (arith, countFrom-past a (suc n) (omega arith)))
+      (λ (g : a ≤ n). omega (arith, countFrom-suc a n g, countFrom-most a n g, one-≤ (p n))) (lt-or-ge n a)
+
+  -- those below c and those from c on
+  pub countFrom-add : (a c n : ℕ) → a ≤ c → c ≤ n → countFrom p a n ≡ countFrom p a c + countFrom p c n
+  countFrom-add a c zero h g = let e : c ≡ 0 = omega arith in rw e (omega (arith, countFrom-past 0 0 (omega arith)))
+  countFrom-add a c (suc n) h g = ⊎-elim
+      (λ (e : c ≡ suc n). rw e (omega (arith, countFrom-past (suc n) (suc n) (omega arith))))
+      (λ l. let q : c ≤ n = le-of-suc-le-suc l in
+      omega (arith, countFrom-suc a n (omega arith), countFrom-suc c n q, countFrom-add a c n h q)) (eq-or-lt-of-le g)
+
+-- counted from d
+pub countFrom-shift : (p : ℕ → Bool) (d a n : ℕ) → countFrom p (d + a) (d + n) ≡ countFrom (λ (i : ℕ). p (d + i)) a n
+countFrom-shift p d a zero =
+    countFrom-past p (d + a) (d + 0) (omega arith) ∙ sym (countFrom-past (λ (i : ℕ). p (d + i)) a 0 (omega arith))
+countFrom-shift p d a (suc n) = ⊎-elim
+    (λ (l : n < a). countFrom-past p (d + a) (d + suc n) (omega arith) ∙ sym (countFrom-past (λ (i : ℕ). p (d + i)) a (suc n) (omega arith)))
+    (λ (g : a ≤ n). let e : d + suc n ≡ suc (d + n) = omega arith in
+    rw e (countFrom-suc p (d + a) (d + n) (omega arith) ∙ ap (λ (x : ℕ). x + one (p (d + n))) (countFrom-shift p d a n)
+    ∙ sym (countFrom-suc (λ (i : ℕ). p (d + i)) a n g)))
+    (lt-or-ge n a)
+
+pub countFrom-same : (p q : ℕ → Bool) (a n : ℕ) → ((k : ℕ) → a ≤ k → k < n → p k ≡ q k) → countFrom p a n ≡ countFrom q a n
+unfolding countFrom
+countFrom-same p q a n h = count-same (from a p) (from a q) n (λ k l. from-same p q a k (λ g. h k g l))
+
+-- from 0 on, all
+pub countFrom-0 : (p : ℕ → Bool) (n : ℕ) → countFrom p 0 n ≡ count p n
+unfolding countFrom
+countFrom-0 p n = count-same (from 0 p) p n (λ k l. from-is p 0 k (omega arith))

@@ -1,5 +1,6 @@
 -- One of two by a test, and tests put together.
 use mathlib.Core.Bool.{Bool, true, false}
+use Prim.Native.Nat.{ℕ}
 
 abbrev pub pick : {A : Type 0} → Bool → A → A → A
 pick true a b = a
@@ -20,3 +21,8 @@ implies false b = true
 unfoldable pub no : Bool → Bool
 no true = false
 no false = true
+
+-- 1 where a test holds, else 0
+abbrev pub one : Bool → ℕ
+one true = 1
+one false = 0

@@ -4,11 +4,11 @@ use mathlib.Core.Path.{_≡_, refl}
 use mathlib.Core.Bool.{false}
 use mathlib.Core.List.{List, [], _∷_, _++_}
 use Rattle.laws.specs.Choice.{both, either}
-use Rattle.laws.specs.Scan.{all, first}
+use Rattle.laws.specs.Scan.{all, first, count}
 use Rattle.text.specs.Words.{okWord, turnsWord, doneWord, sameWord, readWord, inWord, outWord}
 use Rattle.output.specs.Line.{alikeAt, hasAt, endsAt, digitOf, digitAt, digitsFrom, numberAt, lastOf, hexOf, valueAt, closesAt, plainAt, readsAt, countAt, outOf, restAt, endingOf, answerAt, afterNumber, lineOf, isLine}
 use Rattle.output.specs.declared.Line.the-variants.{Ending}
-use Rattle.laws.specs.Count.{count, sum, largest}
+use Rattle.laws.specs.Count.{sum, largest}
 use Rattle.measure.specs.Pair.{sameFrom, sameBytes, otherPair, endingPair, pairEnding, pairLines, pairOf, driftOf}
 use Rattle.measure.specs.Sheet.{places, pairAt, endings, drifted, farthest, farthestLine, total, changed, sheet, sheetOf}
 

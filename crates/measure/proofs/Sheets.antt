@@ -10,12 +10,12 @@ use native.Mathlib.Numerals.{add-one}
 use native.Mathlib.Omega.{arith}
 use borrow.Author.Tests.{lt-ltb, le-ltb, eq-eqb, ne-eqb}
 use lib.Dec.{ltb, eqb}
-use Rattle.laws.specs.Choice.{pick}
-use Rattle.laws.specs.Scan.{first}
+use Rattle.laws.specs.Choice.{pick, one}
+use Rattle.laws.specs.Scan.{first, count}
 use Rattle.laws.proofs.Splice.{lt-or-ge}
 use Rattle.laws.proofs.Scan.{first-hit, first-none, first-suc-old}
 use Rattle.laws.proofs.Count.{largest-suc, largest-least, largest-first}
-use Rattle.laws.specs.Count.{one, count, sum, largest}
+use Rattle.laws.specs.Count.{sum, largest}
 use Rattle.measure.specs.Pair.{driftOf}
 use Rattle.measure.specs.Sheet.{stay, places, pairAt, endings, drifted, farthest, farthestLine, total, changed, sheet, sheetOf, noTally, added, tallied}
 use Rattle.measure.specs.declared.Pair.{Pair}

@@ -4,7 +4,7 @@ use mathlib.Core.Path.{_≡_}
 use native.Mathlib.Omega.{arith}
 use borrow.Author.Tests.{lt-ltb, le-ltb}
 use lib.Dec.{ltb}
-use Rattle.laws.specs.Count.{one}
+use Rattle.laws.specs.Choice.{one}
 use Rattle.measure.specs.Pair.{driftOf}
 use Rattle.measure.specs.Sheet.{stay, added}
 use Rattle.measure.specs.declared.Pair.{Pair}

@@ -13,8 +13,8 @@ use Rattle.laws.specs.Choice.{pick, both}
 use Rattle.laws.specs.Scan.{all}
 use Rattle.laws.proofs.Choice.{not-both-ways, both-true, both-left, both-right}
 use Rattle.laws.proofs.Splice.{lt-or-ge}
-use Rattle.laws.proofs.Scan.{all-at, all-is}
-use Rattle.laws.proofs.Count.{count-zero, count-none}
+use Rattle.laws.proofs.Scan.{all-at, all-is, count-none}
+use Rattle.laws.proofs.Count.{count-zero}
 use Rattle.output.specs.Line.{alikeAt, lineOf}
 use Rattle.measure.specs.Pair.{sameFrom, sameBytes, otherPair, endingPair, pairEnding, pairLines, pairOf, onePair, driftOf}
 use Rattle.measure.specs.Sheet.{places, pairAt, drifted, changed}

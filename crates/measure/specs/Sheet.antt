@@ -4,9 +4,9 @@ use Prim.Native.Nat.{ℕ, zero, suc, _+_, min, max}
 use mathlib.Core.List.{List, []}
 use lib.ListN.{length, getD}
 use lib.Dec.{ltb, eqb}
-use Rattle.laws.specs.Choice.{pick, both}
-use Rattle.laws.specs.Scan.{first}
-use Rattle.laws.specs.Count.{one, count, sum, largest}
+use Rattle.laws.specs.Choice.{pick, both, one}
+use Rattle.laws.specs.Scan.{first, count}
+use Rattle.laws.specs.Count.{sum, largest}
 use Rattle.measure.specs.Pair.{pairOf, onePair, driftOf}
 use Rattle.measure.specs.declared.Pair.{Pair}
 use Rattle.measure.specs.declared.Tally.{Tally}
