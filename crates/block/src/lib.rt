@@ -93,19 +93,20 @@ pub fn put_group(row: &mut [u8], at: usize, v: u32)
     row[at + 3] = (v / 256 / 256 / 256 % 256) as u8;
 }
 
-// Every byte is zero.
+// Every byte is zero: the largest one is.
 pub fn all_zero(row: &[u8]) -> bool
     ensures { λ r. ⌜ r ≡ allZero (now (row .entry)) ⌝ }
 {
-    let mut zero = true;
+    let mut most: u8 = 0;
     let mut i = 0;
     while i < row.len() {
-        if row[i] != 0 {
-            zero = false;
+        let byte = row[i];
+        if most < byte {
+            most = byte;
         }
         i += 1;
     }
-    zero
+    most == 0
 }
 
 // Bit k of a byte, bit 0 lowest; 0 past the last.
