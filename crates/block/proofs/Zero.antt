@@ -3,7 +3,7 @@ use mathlib.Core.Path.{_≡_, refl, ap, sym, _∙_}
 use mathlib.Core.Bool.{Bool, true, false}
 use mathlib.Core.List.{List}
 use mathlib.Core.Logic.{⊎-elim}
-use Prim.Native.Nat.{ℕ, zero, suc, _+_, _<_}
+use Prim.Native.Nat.{ℕ, zero, suc, _+_, _≤_, _<_}
 use native.Mathlib.Numerals.{add-one}
 use native.Mathlib.Omega.{arith}
 use lib.Dec.{eqb}
@@ -11,8 +11,9 @@ use lib.ListN.{length, getD}
 use borrow.Author.Tests.{eqb-true, eqb-false, eq-eqb, ne-eqb}
 use Rattle.laws.specs.Choice.{both}
 use Rattle.laws.specs.Scan.{all}
-use Rattle.laws.proofs.Choice.{not-both-ways, true-or-false, both-false-right}
+use Rattle.laws.proofs.Choice.{not-both-ways, true-or-false, both-false-left, both-false-right}
 use Rattle.laws.proofs.Scan.{all-at, all-is, all-fails}
+use Rattle.laws.proofs.Splice.{lt-or-ge}
 use Rattle.block.specs.Block.{allZero}
 
 both-one : (a : Bool) → both a true ≡ a
@@ -71,6 +72,17 @@ module _ (m : List ℕ) (i : ℕ) where
   -- another ends it
   pub zero-less : (getD m i 0 ≡ 0 → ⊥) → zeroBelow m (i + 1) ≡ false
   zero-less h = zero-next ∙ both-false-right (zeroBelow m i) _ (ne-eqb (getD m i 0) 0 h)
+
+  -- the largest byte so far is zero exactly if they all are
+  pub most-new : (most : ℕ) → most < getD m i 0 → eqb (getD m i 0) 0 ≡ zeroBelow m (i + 1)
+  most-new most h = let ne : getD m i 0 ≡ 0 → ⊥ = λ z. absurd (omega arith) in ne-eqb _ _ ne ∙ sym (zero-less ne)
+
+  pub most-stays : (most : ℕ) → eqb most 0 ≡ zeroBelow m i → getD m i 0 ≤ most → eqb most 0 ≡ zeroBelow m (i + 1)
+  most-stays most e h =
+      ⊎-elim
+      (λ (q : most < 1). let z : getD m i 0 ≡ 0 = omega arith in e ∙ sym (zero-more z))
+      (λ (q : 1 ≤ most). let f : eqb most 0 ≡ false = ne-eqb most 0 (λ z. absurd (omega arith)) in f ∙ sym (zero-next ∙ both-false-left _ _ (sym e ∙ f)))
+      (lt-or-ge most 1)
 
   pub zero-end : i ≡ length m → zeroBelow m i ≡ allZero m
   unfolding allZero

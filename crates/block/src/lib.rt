@@ -138,19 +138,20 @@ pub fn put_group(row: &mut [u8], at: usize, v: u32)
     put_word(row, at, v);
 }
 
-// Every byte is zero.
+// Every byte is zero: the largest one is.
 pub fn all_zero(row: &[u8]) -> bool
     ensures { λ r. ⌜ r ≡ allZero (now (row .entry)) ⌝ }
 {
-    let mut zero = true;
+    let mut most: u8 = 0;
     let mut i = 0;
     while i < row.len() {
-        if row[i] != 0 {
-            zero = false;
+        let byte = row[i];
+        if most < byte {
+            most = byte;
         }
         i += 1;
     }
-    zero
+    most == 0
 }
 
 // Every byte is made zero.
