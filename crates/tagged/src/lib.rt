@@ -148,8 +148,8 @@ fn earlier(x: u32, y: u32) -> u32
     x
 }
 
-// The lowest group from a up to but not including b that reads not zero; b where there is none.
-fn lowest(n: u32, memory: &[u8], a: u32, b: u32) -> u32
+// The lowest group from a up to but not including b that reads not zero, by leaves with bit 1; b where there is none.
+fn lowest_by_leaves(n: u32, memory: &[u8], a: u32, b: u32) -> u32
     requires { ⌜ (a ≤ b) × (b ≤ groups n) × (n ≤ 262144) × (length (now memory) ≡ memoryLength n) ⌝ }
     ensures { λ r. ⌜ r ≡ lowest n (now (memory .entry)) a b ⌝ }
 {
@@ -169,6 +169,20 @@ fn lowest(n: u32, memory: &[u8], a: u32, b: u32) -> u32
         g = upto;
     }
     b
+}
+
+// The same; a's own group, which a sweep's next one most often is, is read first.
+fn lowest(n: u32, memory: &[u8], a: u32, b: u32) -> u32
+    requires { ⌜ (a ≤ b) × (b ≤ groups n) × (n ≤ 262144) × (length (now memory) ≡ memoryLength n) ⌝ }
+    ensures { λ r. ⌜ r ≡ lowest n (now (memory .entry)) a b ⌝ }
+{
+    if b <= a {
+        return b;
+    }
+    if memory::plain_group(n, memory, a) != 0 {
+        return a;
+    }
+    lowest_by_leaves(n, memory, a, b)
 }
 
 // The number of leaves with bit 1 from a's leaf to that of group b - 1; 0 where a is b.
