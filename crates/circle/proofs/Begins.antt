@@ -1,14 +1,13 @@
 -- Where a circle may begin: a fresh or opened memory is ready, every call keeps it so, and thus the circle may begin in any state of a run.
-use mathlib.Core.Path.{_≡_, refl, sym, ap, _∙_}
+use mathlib.Core.Path.{_≡_, refl, ap, _∙_}
 use mathlib.Core.Bool.{true, false}
 use mathlib.Core.List.{List, [], _∷_}
-use mathlib.Core.Logic.{_⊎_, inl, inr}
 use Prim.Native.Nat.{ℕ, _<_}
 use native.Mathlib.Omega.{arith}
 use lib.ListN.{getD-replicate}
-use Rattle.laws.proofs.Choice.{true-or-false}
+use Rattle.geometry.specs.TagMemory.{mostTrackers}
 use Rattle.laws.proofs.Scan.{all-is}
-use Rattle.memory.specs.True.{isTrue, clearedMap}
+use Rattle.memory.specs.True.{clearedMap}
 use Rattle.memory.proofs.Clearing.{length-clearedMap}
 use Rattle.tracker.specs.Tracker.{idle, isIdle}
 use Rattle.tracker.specs.Answer.{ok}
@@ -22,7 +21,7 @@ use Rattle.rules.proofs.Begun.{begun-whole, fresh-passed, open-passed, fresh-ac
 use Rattle.circle.specs.Order.{Order}
 use Rattle.circle.specs.Circle.{Circle, begins}
 use Rattle.circle.proofs.Ready.{Ready}
-use Rattle.circle.proofs.Calls.{ok-not-no, call-keeps}
+use Rattle.circle.proofs.Calls.{call-keeps}
 
 -- every tracker is idle, and the state is ready
 pub record AtRest (k : Kept) : Type 0 where
@@ -34,7 +33,7 @@ module _ (n t l : ℕ) (bytes memory : List ℕ) where
   unfolding allIdle
   at-rest w r = record {
     ready = (begun-whole n t l w, r);
-    all-idle = all-is _ t (λ x h. ap isIdle (getD-replicate 8 x idle idle (let m = t-most n t l w in omega arith)));
+    all-idle = all-is _ t (λ x h. ap isIdle (getD-replicate mostTrackers x idle idle (let m = t-most n t l w in omega arith)));
   }
 
   -- "A fresh memory sets every map byte to 0": its length stays

@@ -9,7 +9,7 @@ use Rattle.laws.proofs.Choice.{not-both-ways}
 use Rattle.laws.proofs.Splice.{lt-or-ge}
 use Rattle.laws.proofs.Scan.{all-at}
 use Rattle.tracker.specs.declared.Tracker.{Tracker}
-use Rattle.tracker.specs.Tracker.{isIdle}
+use Rattle.tracker.specs.Tracker.{isIdle, mostTurns}
 use Rattle.tracker.specs.Tracker as Tracker
 use Rattle.tracker.specs.Answer.{Said, ok, wait, moved, read, done, same}
 use Rattle.tracker.specs.Answer as Answer
@@ -28,7 +28,7 @@ use Rattle.circle.proofs.Link.{anew, each, Stepped, by-table, still-bus
 
 -- a busy tracker's count is the turns given, up to 65,535
 abbrev CountsAt : (ℕ → ℕ) → ℕ → Tracker → Type 0
-CountsAt given x t = isIdle t ≡ false → t .turns ≡ min (given x) 65535
+CountsAt given x t = isIdle t ≡ false → t .turns ≡ min (given x) mostTurns
 
 abbrev Counts : Kept → (ℕ → ℕ) → Type 0
 Counts k given = (x : ℕ) → CountsAt given x (trackerIn k x)
@@ -107,6 +107,6 @@ every-ending k w r i cs x said e = at (does (ended k cs) (steps x)) (outcome (en
     K : Counted (ended k cs) (givenIn k cs (λ y. 0))
     K = run-counts k (λ y. 0) cs (record { ready = (w, r); counts = λ y b. absurd (not-both-ways (all-idle k w i y) b) })
 
-    at : (o : Out) → Outcome (ended k cs) (steps x) o → o ≡ does (ended k cs) (steps x) → said ≡ min (suc (givenIn k cs (λ y. 0) x)) 65535
+    at : (o : Out) → Outcome (ended k cs) (steps x) o → o ≡ does (ended k cs) (steps x) → said ≡ min (suc (givenIn k cs (λ y. 0) x)) mostTurns
     at o (refused c q z) is = absurd (subst (λ (a : Said). Ending a said) (ap (λ (a : Out). a .said) (sym is) ∙ q) e)
     at o (stepped x' h b) is = ending-counts (ended k cs) x said (givenIn k cs (λ y. 0) x) (by-table (ended k cs) (K .ready) x h b) e (K .counts x b)

@@ -2,7 +2,7 @@
 use mathlib.Core.Path.{_≡_}
 use mathlib.Core.Bool.{Bool, true, false}
 use Prim.Native.Nat.{ℕ, suc, _≤_, _<_, min}
-use Rattle.tracker.specs.Tracker.{isIdle}
+use Rattle.tracker.specs.Tracker.{isIdle, mostTurns}
 use Rattle.tracker.specs.Answer.{no}
 use Rattle.rules.specs.Calls.{Out}
 use Rattle.rules.specs.Run.{Call, steps, Kept, kept, does}
@@ -31,7 +31,7 @@ module _ (t : ℕ) (order : Order t) where
   module _ (k : Kept) (i : ℕ) (given : ℕ → ℕ) (under : ℕ → Bool) (run : Circle t order k i given under) (x : ℕ) (h : x < t) (o : Out) (m : Met k (steps x) o) where
     -- the code's step that ends an access issued under the circle
     pub code-ending : (said : ℕ) → under x ≡ true → Ending (o .said) said
-        → (said ≡ min (suc (given x)) 65535) × (suc (given x) ≤ lastTurn t (trackerIn k x .write) (trackerIn k x .bottom))
+        → (said ≡ min (suc (given x)) mostTurns) × (suc (given x) ≤ lastTurn t (trackerIn k x .write) (trackerIn k x .bottom))
     code-ending said u e = longest-wait t order k i given under run .ending x said h u (rw (m .said-is) at e)
 
     -- the code's step of a busy tracker

@@ -3,6 +3,7 @@ use mathlib.Core.Path.{_≡_}
 use mathlib.Core.Bool.{true}
 use mathlib.Core.List.{List, [], _∷_}
 use Prim.Native.Nat.{ℕ, suc, min}
+use Rattle.tracker.specs.Tracker.{mostTurns}
 use Rattle.tracker.specs.Answer.{Said, ok, wait, moved, read, done, same, no}
 use Rattle.rules.specs.State.{lengthsRight}
 use Rattle.rules.specs.Whole.{whole}
@@ -36,4 +37,4 @@ givenIn k (c ∷ cs) given = givenIn (kept (does k c)) cs (givenAfter (does k c 
 -- For every list of calls from a state with every tracker idle, as fresh and open leave it: a step that ends an access says the turns it was given, this one counted.
 abbrev pub EveryEnding : Type 0
 EveryEnding = (k : Kept) → whole (k .state) ≡ true → lengthsRight (k .state .n) (k .state .l) (k .bytes) (k .memory) ≡ true → allIdle (k .state) ≡ true
-    → (cs : List Call) (x turns : ℕ) → Ending (does (ended k cs) (steps x) .said) turns → turns ≡ min (suc (givenIn k cs (λ y. 0) x)) 65535
+    → (cs : List Call) (x turns : ℕ) → Ending (does (ended k cs) (steps x) .said) turns → turns ≡ min (suc (givenIn k cs (λ y. 0) x)) mostTurns

@@ -3,7 +3,7 @@ use mathlib.Core.Path.{_≡_, refl, sym, ap, _∙_, subst}
 use mathlib.Core.Bool.{true, false}
 use mathlib.Core.List.{List, [], _∷_}
 use mathlib.Core.Logic.{_⊎_, inl, inr, ⊎-elim}
-use Prim.Native.Nat.{ℕ, zero, suc, _+_, _<_}
+use Prim.Native.Nat.{ℕ, _+_, _<_}
 use native.Mathlib.Omega.{arith}
 use lib.ListN.{getD, replicate}
 use Rattle.laws.specs.Choice.{no as negated}
@@ -11,7 +11,7 @@ use Rattle.laws.proofs.Writes.{getD-replicate}
 use Rattle.laws.proofs.Choice.{not-both-ways, true-or-false, both-left, both-right, both-true, no-true}
 use Rattle.laws.proofs.Splice.{lt-or-ge}
 use Rattle.laws.proofs.Scan.{all-at, all-is}
-use Rattle.geometry.specs.TagMemory.{tagOf}
+use Rattle.geometry.specs.TagMemory.{tagOf, mostTrackers, mostLines}
 use Rattle.memory.specs.PlainReading.{plainGroup}
 use Rattle.memory.specs.True.{isTrue, clearedMap}
 use Rattle.memory.proofs.Clearing.{length-clearedMap, clearedMap-true}
@@ -20,9 +20,9 @@ use Rattle.tracker.specs.declared.Tracker.{Tracker}
 use Rattle.tracker.specs.Tracker.{idle, isIdle}
 use Rattle.tracker.specs.Answer.{Said, ok}
 use Rattle.line.specs.Word.{used, changed}
-use Rattle.rules.specs.State.{State, trackerAt, lengthsRight, begun, zeroState}
+use Rattle.rules.specs.State.{State, trackerAt, lengthsRight, begun}
 use Rattle.rules.specs.Whole.{limits}
-use Rattle.rules.specs.Calls.{Out, refused, accepted, fresh, opened, allIdle, drain}
+use Rattle.rules.specs.Calls.{Out, accepted, fresh, opened, allIdle, drain}
 use Rattle.rules.specs.Run.{Call, steps, drains, Kept, kept, does, answers, ended}
 use Rattle.line.proofs.Words.{free-used}
 use Rattle.rules.proofs.Lined.{at}
@@ -139,8 +139,8 @@ module _ (n t l : ℕ) (bytes memory : List ℕ) (lim : limits n t l ≡ true) (
   begun-ok = record {
     is-whole = begun-whole n t l lim;
     right = right;
-    agrees = begins n l (record { lines = replicate 64 0; bytes = bytes; memory = memory }) (replicate 8 idle) (bytes-right n l bytes memory right) (memory-right n l bytes memory right)
-        (l-most n t l lim) (λ i b h. not-both-ways (h .is-used) (ap used (getD-replicate 64 i 0) ∙ free-used)) (λ x. getD-replicate 8 x idle) tr;
+    agrees = begins n l (record { lines = replicate mostLines 0; bytes = bytes; memory = memory }) (replicate mostTrackers idle) (bytes-right n l bytes memory right) (memory-right n l bytes memory right)
+        (l-most n t l lim) (λ i b h. not-both-ways (h .is-used) (ap used (getD-replicate mostLines i 0) ∙ free-used)) (λ x. getD-replicate mostTrackers x idle) tr;
   }
 
 module _ (n t l : ℕ) (bytes memory : List ℕ) where
@@ -161,8 +161,8 @@ module _ (n t l : ℕ) (bytes memory : List ℕ) where
       rw (open-accepted n t l bytes memory c) (begun-ok n t l bytes memory (f .0) (f .1) (f .2))
 
   -- every tracker is idle then
-  begun-idle : (o : Out) → o .state .trackers ≡ replicate 8 idle → (x : ℕ) → trackerAt (o .state .trackers) x .phase ≡ Idle
-  begun-idle o e x = ap (λ (ts : List Tracker). trackerAt ts x .phase) e ∙ ap (λ (u : Tracker). u .phase) (getD-replicate 8 x idle)
+  begun-idle : (o : Out) → o .state .trackers ≡ replicate mostTrackers idle → (x : ℕ) → trackerAt (o .state .trackers) x .phase ≡ Idle
+  begun-idle o e x = ap (λ (ts : List Tracker). trackerAt ts x .phase) e ∙ ap (λ (u : Tracker). u .phase) (getD-replicate mostTrackers x idle)
 
   fresh-idle : (x : ℕ) → trackerAt (fresh n t l bytes memory .state .trackers) x .phase ≡ Idle
   fresh-idle = begun-idle (fresh n t l bytes memory) (fresh-trackers n t l bytes memory)

@@ -2,15 +2,13 @@
 use mathlib.Core.Path.{_≡_, refl, sym, ap, _∙_}
 use mathlib.Core.Bool.{Bool, true, false}
 use mathlib.Core.List.{List, [], _∷_, _++_}
-use Prim.Native.Nat.{ℕ, zero, suc, _+_, _*_, _<_, _≤_}
+use Prim.Native.Nat.{ℕ, zero, suc, _+_, _<_, _≤_}
 use native.Mathlib.Omega.{arith}
 use native.Mathlib.Decide.{ℕ-discrete}
 use lib.Dec.{ltb, eqb}
 use lib.ListN.{length, getD, set, length-set}
 use lib.Seq.{getD-set-same, getD-set-other}
-use borrow.Author.Tests.{ltb-true, eq-eqb, ne-eqb}
-use borrow.Author.Tests.{not-true, ne-eqb}
-use Rattle.laws.specs.Refusal.{refusal, unless}
+use borrow.Author.Tests.{ltb-true, eq-eqb, ne-eqb, not-true}
 use Rattle.laws.proofs.Refusal.{refusal-hold, refusal-other, unless-by}
 use Rattle.tracker.specs.declared.Access.{Access}
 use Rattle.rules.specs.Calls.{issueTests, stepTests, drainTests}

@@ -1,6 +1,6 @@
 -- Calls that meet the public promises, from an accepted fresh or open, are a run that demand 2 speaks of: each promise is the run's own next step.
 use mathlib.Core.Path.{_≡_, refl, sym, ap, _∙_, subst}
-use mathlib.Core.List.{List, []}
+use mathlib.Core.List.{List}
 use Prim.Native.Nat.{ℕ}
 use Rattle.tracker.specs.Answer.{Said, ok}
 use Rattle.rules.specs.Calls.{Out, fresh, opened}

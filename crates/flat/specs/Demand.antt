@@ -7,7 +7,7 @@ use lib.Dec.{ltb}
 use lib.ListN.{getD}
 use Rattle.laws.specs.Choice.{both, no}
 use Rattle.laws.specs.Scan.{all}
-use Rattle.geometry.specs.TagMemory.{leafOf, tagOf}
+use Rattle.geometry.specs.TagMemory.{leafOf, tagOf, values}
 use Rattle.memory.specs.PlainReading.{plainGroup}
 use Rattle.memory.specs.True.{isTrue}
 use Rattle.tracker.specs.Tracker.{isIdle}
@@ -38,7 +38,7 @@ flatOf k = record { n = k .state .n; t = k .state .t; l = k .state .l; row = pla
 
 -- a call's value is an unsigned 32-bit number
 abbrev pub Value32 : Call → Type 0
-Value32 (issues x access) = access .value < 4294967296
+Value32 (issues x access) = access .value < values
 Value32 (steps x) = Unit {0}
 Value32 drains = Unit {0}
 Value32 (lends b m c) = Value32 c

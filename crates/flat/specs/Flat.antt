@@ -2,14 +2,13 @@
 -- An access takes effect on the row at one moment, which its steps give: "A write takes effect at its Leaf step, or where it ends 'same'; a read where it ends."
 use mathlib.Core.List.{List, [], _∷_, _++_}
 use mathlib.Core.Bool.{Bool, true, false}
-use Prim.Native.Nat.{ℕ, _+_, _*_}
-use lib.Dec.{eqb, ltb}
+use Prim.Native.Nat.{ℕ, _+_}
+use lib.Dec.{eqb}
 use lib.ListN.{set}
-use Rattle.geometry.specs.TagMemory.{groups, groupOn}
+use Rattle.geometry.specs.TagMemory.{groupOn, leafOf}
 use Rattle.laws.specs.Choice.{pick, both, implies, no}
 use Rattle.laws.specs.Scan.{all}
 use Rattle.laws.specs.Refusal.{refusal, unless}
-use Rattle.geometry.specs.TagMemory.{leafOf}
 use Rattle.tracker.specs.declared.Phase.{Phase}
 use Rattle.tracker.specs.declared.Phase.the-variants.{Idle, Probe, Map, Leaf, Set, Clear}
 use Rattle.tracker.specs.declared.Access.{Access}

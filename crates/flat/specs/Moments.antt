@@ -5,7 +5,6 @@ use lib.Dec.{eqb}
 use Rattle.tracker.specs.Tracker.{isIdleAt, atFinish}
 use Rattle.laws.specs.Choice.{pick}
 use Rattle.tracker.specs.declared.Phase.{Phase}
-use Rattle.tracker.specs.declared.Phase.the-variants.{Idle, Probe, Map, Leaf, Set, Clear}
 use Rattle.tracker.specs.Answer.{Said, ok, wait, moved, read, done, same, no}
 use Rattle.rules.specs.Run.{Call, issues, steps, drains, lends}
 use Rattle.flat.specs.Flat.{Flat, Given, Effect, flatDoes}

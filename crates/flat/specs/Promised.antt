@@ -2,7 +2,7 @@
 -- back and the lent bytes that it leaves, to the rules' own issue, step or drain.
 use mathlib.Core.Path.{_≡_}
 use mathlib.Core.List.{List, [], _∷_}
-use mathlib.Core.Bool.{Bool, false}
+use mathlib.Core.Bool.{false}
 use Prim.Native.Nat.{ℕ}
 use Rattle.tracker.specs.declared.Access.{Access}
 use Rattle.tracker.specs.Answer.{Said}

@@ -1,5 +1,5 @@
 -- Scans by a test on numbers: the first below n at which it holds, and whether it holds at each.
-use mathlib.Core.Bool.{Bool, true, false}
+use mathlib.Core.Bool.{Bool, true}
 use Prim.Native.Nat.{ℕ, zero, suc}
 use lib.Dec.{ltb}
 use Rattle.laws.specs.Choice.{pick, both}
