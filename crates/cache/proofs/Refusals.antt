@@ -13,7 +13,7 @@ use Rattle.laws.proofs.Refusal.{refusal-0, refusal-hold, refusal-first, refusal
 use Rattle.laws.specs.Bytes.{part}
 use Rattle.laws.specs.Scan.{all}
 use Rattle.laws.proofs.Choice.{both-true}
-use Rattle.geometry.specs.TagMemory.{memoryLength, mapBlockOf, mapByteOf, mapBitOf, blockPlace}
+use Rattle.geometry.specs.TagMemory.{memoryLength, mapBlockOf, mapByteOf, mapBitOf, blockPlace, mostLeaves, mostTrackers, mostLines}
 use Rattle.block.specs.Block.{bitAt}
 use Rattle.memory.specs.PlainReading.{leafBit}
 use Rattle.memory.specs.True.{isTrue, clearedMap}
@@ -100,7 +100,7 @@ module _ (s : State) (bytes memory : List ℕ) (x : ℕ) (a : Access) where
   issue-fit e = past-no s bytes memory _ e
 
   -- where an issue is not refused
-  pub issue-in : issueNo s bytes memory x a ≡ 0 → x < 8
+  pub issue-in : issueNo s bytes memory x a ≡ 0 → x < mostTrackers
   unfolding issueNo
   issue-in e =
       let h = refusal-hold (stateTests s bytes memory ++ issueTests (s .n) (s .t) x a (s .trackers)) refl e in
@@ -124,7 +124,7 @@ module _ (s : State) (bytes memory : List ℕ) (x : ℕ) where
   unfolding stepNo
   step-fit e = past-no s bytes memory _ e
 
-  pub step-in : stepNo s bytes memory x ≡ 0 → x < 8
+  pub step-in : stepNo s bytes memory x ≡ 0 → x < mostTrackers
   unfolding stepNo
   step-in e =
       let h = refusal-hold (stateTests s bytes memory ++ stepTests (s .t) x (s .trackers)) refl e in
@@ -150,7 +150,7 @@ module _ (s : State) (bytes memory : List ℕ) where
   drain-fit e = past-no s bytes memory _ e
 
   -- where a drain is not refused, the rows are of L lines
-  pub drain-rows : drainNo s bytes memory ≡ 0 → length (s .lines) ≡ 64 → drainedRows (s .l) (rows (s .lines) bytes memory) ≡ drained (s .l) (rows (s .lines) bytes memory)
+  pub drain-rows : drainNo s bytes memory ≡ 0 → length (s .lines) ≡ mostLines → drainedRows (s .l) (rows (s .lines) bytes memory) ≡ drained (s .l) (rows (s .lines) bytes memory)
   unfolding drainNo drainedRows rowsFit
   drain-rows e h =
       let h' = refusal-hold (stateTests s bytes memory ++ drainTests (allIdle s)) refl e in
@@ -180,7 +180,7 @@ module _ (s : State) (bytes memory : List ℕ) (k : ℕ) where
   show-fit e = past-no s bytes memory _ e
 
   -- where a leaf is shown
-  pub show-in : showNo s bytes memory k ≡ 0 → (k < s .n) × (s .n ≤ 262144) × (s .l ≤ 64) × (length bytes ≡ 64 * s .l) × (length memory ≡ memoryLength (s .n))
+  pub show-in : showNo s bytes memory k ≡ 0 → (k < s .n) × (s .n ≤ mostLeaves) × (s .l ≤ mostLines) × (length bytes ≡ 64 * s .l) × (length memory ≡ memoryLength (s .n))
   unfolding showNo
   show-in e =
       let h = refusal-hold (stateTests s bytes memory ++ showTests (s .n) k (allIdle s)) refl e in

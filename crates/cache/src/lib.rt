@@ -8,12 +8,13 @@ use turned::Turned;
 ghost use mathlib.Core.Path.{_≡_};
 ghost use Prim.Native.Nat.{_≤_};
 ghost use Rattle.tracker.specs.Answer.{says, no};
+ghost use Rattle.geometry.specs.TagMemory.{mostLeaves, mostLines};
 ghost use Rattle.rules.specs.State.{begun, zeroState};
 ghost use Rattle.rules.specs.Whole.{whole};
 ghost use Rattle.rules.specs.Step.{turnOf};
 ghost use Rattle.rules.specs.Calls.{fresh, opened, issueNo, issue, stepNo, step, drainNo, drain, showNo, shownBit, show};
-ghost use Rattle.lines.specs.Lines.{rows, drainedRows, Drains};
-ghost use Rattle.turned.specs.Steps.{Steps};
+ghost use Rattle.lines.specs.Lines.{rows, drainedRows};
+ghost use Rattle.turned.specs.Steps.{turned};
 ghost use Rattle.cache.specs.Seen.{seen, unready, unfit, did};
 
 // T trackers and L lines over n leaves: a line is a number (`line`), 0 where it is free; lines L and up, trackers T and up are not used.
@@ -22,8 +23,8 @@ pub struct State {
     pub t: u32,
     pub l: usize,
     pub hand: usize,
-    pub lines: [u32; 64],
-    pub trackers: [Tracker; 8],
+    pub lines: [u32; Geometry::MOST_LINES],
+    pub trackers: [Tracker; Geometry::MOST_TRACKERS],
 }
 
 // What a call hands back: the state, and beside it the answer.
@@ -33,8 +34,8 @@ pub struct Out {
 }
 
 // The row of lines, lent on as a slice to be drained.
-fn drain_row(l: usize, row: &mut [u32; 64], bytes: &[u8], memory: &mut [u8])
-    ensures { λ _. ⌜ Drains (drainedRows l (rows (now (row .entry)) (now (bytes .entry)) (now (memory .entry)))) (now (row .exit)) (now (memory .exit)) ⌝ }
+fn drain_row(l: usize, row: &mut [u32; Geometry::MOST_LINES], bytes: &[u8], memory: &mut [u8])
+    ensures { λ _. ⌜ rows (now (row .exit)) (now (bytes .entry)) (now (memory .exit)) ≡ drainedRows l (rows (now (row .entry)) (now (bytes .entry)) (now (memory .entry))) ⌝ }
 {
     lines::drain(l, row, bytes, memory);
 }
@@ -46,11 +47,11 @@ fn turn_row(
     hand: usize,
     x: u32,
     tracker: Tracker,
-    row: &mut [u32; 64],
+    row: &mut [u32; Geometry::MOST_LINES],
     bytes: &mut [u8],
     memory: &mut [u8],
 ) -> Turned
-    ensures { λ r. ⌜ Steps (turnOf n l hand x tracker (rows (now (row .entry)) (now (bytes .entry)) (now (memory .entry)))) (r .answer) (r .hand) (r .tracker) (now (row .exit)) (now (bytes .exit)) (now (memory .exit)) ⌝ }
+    ensures { λ r. ⌜ turned r (now (row .exit)) (now (bytes .exit)) (now (memory .exit)) ≡ turnOf n l hand x tracker (rows (now (row .entry)) (now (bytes .entry)) (now (memory .entry))) ⌝ }
 {
     step::turn(n, l, hand, x, tracker, row, bytes, memory)
 }
@@ -66,8 +67,8 @@ impl State {
             t,
             l,
             hand: 0,
-            lines: [0; 64],
-            trackers: [idle; 8],
+            lines: [0; Geometry::MOST_LINES],
+            trackers: [idle; Geometry::MOST_TRACKERS],
         }
     }
 
@@ -271,7 +272,7 @@ impl State {
 
     // Leaf k's bit, read in the map block's line if it has one.
     fn shown_bit(self, bytes: &[u8], memory: &[u8], k: u32) -> u8
-        requires { ⌜ (self .n ≤ 262144) × (self .l ≤ 64) ⌝ }
+        requires { ⌜ (self .n ≤ mostLeaves) × (self .l ≤ mostLines) ⌝ }
         ensures { λ r. ⌜ r ≡ shownBit (seen self) (now (bytes .entry)) (now (memory .entry)) k ⌝ }
     {
         let l = self.l;

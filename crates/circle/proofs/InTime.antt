@@ -2,7 +2,7 @@
 use mathlib.Core.Path.{_≡_}
 use mathlib.Core.Bool.{Bool, true, false}
 use Prim.Native.Nat.{ℕ, suc, _≤_, _<_, min}
-use Rattle.tracker.specs.Tracker.{isIdle}
+use Rattle.tracker.specs.Tracker.{isIdle, mostTurns}
 use Rattle.tracker.specs.Answer.{no}
 use Rattle.rules.specs.Run.{steps, Kept, does}
 use Rattle.circle.specs.Order.{Order}
@@ -16,7 +16,7 @@ pub record InTime (t : ℕ) (k : Kept) (given : ℕ → ℕ) (under : ℕ → Bo
   pub busy : (x : ℕ) → x < t → under x ≡ true → isIdle (trackerIn k x) ≡ false → given x < lastTurn t (trackerIn k x .write) (trackerIn k x .bottom)
   -- The step that ends it says the turns that it was given, this one counted, up to 65,535; and they are no more than its last.
   pub ending : (x turns : ℕ) → x < t → under x ≡ true → Ending (does k (steps x) .said) turns
-      → (turns ≡ min (suc (given x)) 65535) × (suc (given x) ≤ lastTurn t (trackerIn k x .write) (trackerIn k x .bottom))
+      → (turns ≡ min (suc (given x)) mostTurns) × (suc (given x) ≤ lastTurn t (trackerIn k x .write) (trackerIn k x .bottom))
   -- A busy tracker's step is never refused, whenever its access was issued.
   pub accepted : (x c : ℕ) → x < t → isIdle (trackerIn k x) ≡ false → does k (steps x) .said ≡ no c → ⊥
 

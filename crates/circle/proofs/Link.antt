@@ -11,7 +11,7 @@ use Rattle.laws.proofs.Choice.{not-both-ways, true-or-false}
 use Rattle.tracker.specs.declared.Phase.{Phase}
 use Rattle.tracker.specs.declared.Phase.the-variants.{Idle, Probe, Map, Leaf, Set, Clear}
 use Rattle.tracker.specs.declared.Tracker.{Tracker}
-use Rattle.tracker.specs.Tracker.{idle, isIdle, tick}
+use Rattle.tracker.specs.Tracker.{idle, isIdle, tick, mostTurns}
 use Rattle.tracker.specs.Answer.{Said, ok, wait, moved, read, done, same}
 use Rattle.tracker.specs.Answer as Answer
 use Rattle.rules.specs.Whole.{mapBlock}
@@ -113,10 +113,10 @@ ending-says t t' (to p) said c h e = absurd (subst (λ (a : Said). Ending a c) (
 ending-says t t' ends said c h e = one-ending said c (tick (t .turns)) e (h .0)
 
 -- "it stays at 65,535 once there"
-pub tick-min : (n a : ℕ) → n ≡ min a 65535 → tick n ≡ min (suc a) 65535
+pub tick-min : (n a : ℕ) → n ≡ min a mostTurns → tick n ≡ min (suc a) mostTurns
 tick-min n a e = omega arith
 
-pub ending-counts : (k : Kept) (x said a : ℕ) (r : Stepped k x) → Ending (does k (steps x) .said) said → trackerIn k x .turns ≡ min a 65535 → said ≡ min (suc a) 65535
+pub ending-counts : (k : Kept) (x said a : ℕ) (r : Stepped k x) → Ending (does k (steps x) .said) said → trackerIn k x .turns ≡ min a mostTurns → said ≡ min (suc a) mostTurns
 ending-counts k x said a r e q =
     ending-says (trackerIn k x) (r .left) (rule (r .held) (r .quit) (r .empty) (trackerIn k x .write) (trackerIn k x .phase)) (does k (steps x) .said) said (r .by-rule) e
     ∙ tick-min (trackerIn k x .turns) a q

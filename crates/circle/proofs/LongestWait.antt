@@ -11,7 +11,7 @@ use Rattle.tracker.specs.declared.Access.{Access}
 use Rattle.tracker.specs.declared.Phase.{Phase}
 use Rattle.tracker.specs.declared.Phase.the-variants.{Idle, Probe, Map, Leaf, Set, Clear}
 use Rattle.tracker.specs.declared.Tracker.{Tracker}
-use Rattle.tracker.specs.Tracker.{isIdle, isIdleAt, holdsAt}
+use Rattle.tracker.specs.Tracker.{isIdle, isIdleAt, holdsAt, mostTurns}
 use Rattle.tracker.specs.Tracker as Tracker
 use Rattle.tracker.specs.Answer.{Said, ok}
 use Rattle.rules.specs.State.{trackerAt}
@@ -84,7 +84,7 @@ left-of n t t' ends said h = rw (h .1) refl
 -- what is known of a busy access that was issued under the circle: the turn it is promised, and its count of the turns given
 record Known (M : ℕ) (t : Tracker) (due given : ℕ) : Type 0 where
   last : due ≡ bound 2 (suc M) (t .write) (t .bottom)
-  counts : t .turns ≡ min given 65535
+  counts : t .turns ≡ min given mostTurns
 
 module _ (M : ℕ) (o : Order (suc M)) where
   abbrev KnownAt : (under : ℕ → Bool) (due given : ℕ → ℕ) → ℕ → Tracker → Type 0
@@ -266,7 +266,7 @@ module _ (M : ℕ) (o : Order (suc M)) where
           omega arith
 
       ending-at : (o' : Out) (x said : ℕ) → Outcome k (steps x) o' → x < suc M → under x ≡ true → Ending (does k (steps x) .said) said → o' .said ≡ does k (steps x) .said
-          → (said ≡ min (suc (given x)) 65535) × (suc (given x) ≤ lastTurn (suc M) (trackerIn k x .write) (trackerIn k x .bottom))
+          → (said ≡ min (suc (given x)) mostTurns) × (suc (given x) ≤ lastTurn (suc M) (trackerIn k x .write) (trackerIn k x .bottom))
       ending-at o' x said (Calls.refused r q z) h u e same = absurd (subst (λ (a : Said). Ending a said) (sym same ∙ q) e)
       ending-at o' x said (Calls.stepped x' p b) h u e same = (ending-counts k x said (given x) (by-table k (K .ready) x p b) e (K .known x h u b .counts), within x h u b)
 

@@ -1,6 +1,6 @@
 -- The invariant that joins lines and memory to the row, and the three ways in which a step keeps it: nothing changes, a leaf changes, a bit changes.
 use mathlib.Core.Path.{_≡_, refl, sym, ap, _∙_, subst}
-use mathlib.Core.Bool.{Bool, true, false}
+use mathlib.Core.Bool.{true, false}
 use mathlib.Core.List.{List}
 use mathlib.Core.Logic.{_⊎_, inl, inr}
 use Prim.Native.Nat.{ℕ, _+_, _*_, _<_, _≤_}
@@ -9,19 +9,17 @@ use native.Mathlib.Decide.{ℕ-discrete}
 use borrow.Author.Tests.{ne-eqb}
 use lib.ListN.{length, set}
 use lib.Seq.{getD-set-same, getD-set-other}
-use Rattle.tracker.specs.Tracker.{atFinish}
+use Rattle.tracker.specs.Tracker.{atFinish, idle, isIdleAt, holdsAt}
 use Rattle.tracker.proofs.Phases.{idle-unfinished}
 use Rattle.geometry.proofs.Places.{leafOf-lt, mapBlockOf-lt, mapBlockOf-bit, mapByteOf-lt, mapBitOf-lt, map-one}
-use Rattle.geometry.specs.TagMemory.{groups}
+use Rattle.geometry.specs.TagMemory.{groups, values, leafOf, byteOf, mapBlockOf, mapByteOf, mapBitOf, mapBlocks, blocks}
 use Rattle.laws.specs.Choice.{pick}
 use Rattle.laws.proofs.Choice.{not-both-ways}
-use Rattle.geometry.specs.TagMemory.{leafOf, byteOf, mapBlockOf, mapByteOf, mapBitOf, mapBlocks, blocks}
 use Rattle.block.specs.Block.{groupAt, bitAt, putBit}
 use Rattle.block.proofs.BitsOf.{bitAt-putBit-same, bitAt-putBit-bit, bitAt-putBit-byte}
 use Rattle.tracker.specs.declared.Phase.{Phase}
 use Rattle.tracker.specs.declared.Phase.the-variants.{Idle, Probe, Map, Leaf, Set, Clear}
 use Rattle.tracker.specs.declared.Tracker.{Tracker}
-use Rattle.tracker.specs.Tracker.{idle, isIdleAt, holdsAt}
 use Rattle.rules.specs.State.{Rows, trackerAt}
 use Rattle.rules.specs.Whole.{mapBlock}
 use Rattle.rules.proofs.Lined.{Has}
@@ -57,7 +55,7 @@ pub record Agrees (n l : ℕ) (r : Rows) (ts : List Tracker) (row : Row) : Type 
   -- a bit says whether its leaf has a tag, unless a tracker is about to set or clear it
   pub bits : (k : ℕ) → k < 512 * mapBlocks n → ((x : ℕ) → Finishes (trackerAt ts x) k → ⊥) → bitOn (content l r (n + mapBlockOf k)) k ≡ pick (tagged row k) 1 0
   pub fits : (x : ℕ) → Fits row (trackerAt ts x) (trackerAt ts x .phase)
-  pub small : (x : ℕ) → trackerAt ts x .value < 4294967296
+  pub small : (x : ℕ) → trackerAt ts x .value < values
 
 pub finish-busy : (p : Phase) → isIdleAt p ≡ true → atFinish p ≡ true → ⊥
 finish-busy p i f = not-both-ways f (idle-unfinished p i)
@@ -84,7 +82,7 @@ agrees-rows A G same lined' = record {
   small = A .small;
 }
 
-module _ {n l : ℕ} {r : Rows} {ts : List Tracker} {row : Row} (A : Agrees n l r ts row) (x : ℕ) (xl : x < length ts) (u' : Tracker) (sm : u' .value < 4294967296) where
+module _ {n l : ℕ} {r : Rows} {ts : List Tracker} {row : Row} (A : Agrees n l r ts row) (x : ℕ) (xl : x < length ts) (u' : Tracker) (sm : u' .value < values) where
   -- tracker x becomes u', the others stay
   each : (P : Tracker → Type 0) → P u' → ((y : ℕ) → (y ≡ x → ⊥) → P (trackerAt ts y)) → (y : ℕ) → P (trackerAt (set ts x u') y)
   each P here other y = go (ℕ-discrete y x)
@@ -118,7 +116,7 @@ module _ {n l : ℕ} {r : Rows} {ts : List Tracker} {row : Row} (A : Agrees n l 
     past = A .past;
     bits = λ k q none. ap (λ (c : List ℕ). bitOn c k) (same (n + mapBlockOf k) (omega (arith, mapBlockOf-bit n k q))) ∙ A .bits k q (nobody-before k (nf k) none);
     fits = each (λ z. Fits row z (z .phase)) ft (λ y q. A .fits y);
-    small = each (λ z. z .value < 4294967296) sm (λ y q. A .small y);
+    small = each (λ z. z .value < values) sm (λ y q. A .small y);
   }
 
   -- Group g of leaf k becomes v; only tracker x holds the leaf's map block.
@@ -143,7 +141,7 @@ module _ {n l : ℕ} {r : Rows} {ts : List Tracker} {row : Row} (A : Agrees n l 
       past = λ k q. far-tags k (λ e. omega (arith, leafOf-lt n g gl)) ∙ A .past k q;
       bits = λ k q none. bit k q none (ℕ-discrete k (leafOf g)) or;
       fits = each (λ z. Fits (put row g v) z (z .phase)) ft (λ y q. fits-other row (put row g v) (trackerAt ts y) (trackerAt ts y .phase) (λ hy. keeps y q hy) (A .fits y));
-      small = each (λ z. z .value < 4294967296) sm (λ y q. A .small y);
+      small = each (λ z. z .value < values) sm (λ y q. A .small y);
     }
       where
         lives : (h : ℕ) → h < groups n → tagged (put row g v) (leafOf h) ≡ true → Dec (leafOf h ≡ leafOf g) → put row g v h ≡ groupAt (content l r' (leafOf h)) (byteOf h)
@@ -175,7 +173,7 @@ module _ {n l : ℕ} {r : Rows} {ts : List Tracker} {row : Row} (A : Agrees n l 
       past = A .past;
       bits = λ j q none. bit j q none (ℕ-discrete (mapBlockOf j) (mapBlockOf k)) (ℕ-discrete j k);
       fits = each (λ z. Fits row z (z .phase)) ft (λ y q. A .fits y);
-      small = each (λ z. z .value < 4294967296) sm (λ y q. A .small y);
+      small = each (λ z. z .value < values) sm (λ y q. A .small y);
     }
       where
         long : length (content l r (n + mapBlockOf k)) ≡ 64

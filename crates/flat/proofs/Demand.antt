@@ -6,6 +6,7 @@ use Prim.Native.Nat.{ℕ}
 use lib.ListN.{replicate}
 use Rattle.laws.proofs.Writes.{getD-replicate}
 use Rattle.laws.proofs.Choice.{not-both-ways}
+use Rattle.geometry.specs.TagMemory.{mostTrackers, mostLines}
 use Rattle.memory.specs.PlainReading.{plainGroup}
 use Rattle.memory.specs.True.{isTrue, clearedMap}
 use Rattle.memory.proofs.Clearing.{length-clearedMap, clearedMap-true}
@@ -59,8 +60,8 @@ module _ (n t l : ℕ) (bytes memory : List ℕ) (lim : limits n t l ≡ true) (
   begun-ok = record {
     is-whole = begun-whole n t l lim;
     right = right;
-    agrees = begins n l (record { lines = replicate 64 0; bytes = bytes; memory = memory }) (replicate 8 idle) (bytes-right n l bytes memory right) (memory-right n l bytes memory right)
-        (l-most n t l lim) (λ i b h. not-both-ways (h .is-used) (ap used (getD-replicate 64 i 0) ∙ free-used)) (λ x. getD-replicate 8 x idle) tr;
+    agrees = begins n l (record { lines = replicate mostLines 0; bytes = bytes; memory = memory }) (replicate mostTrackers idle) (bytes-right n l bytes memory right) (memory-right n l bytes memory right)
+        (l-most n t l lim) (λ i b h. not-both-ways (h .is-used) (ap used (getD-replicate mostLines i 0) ∙ free-used)) (λ x. getD-replicate mostTrackers x idle) tr;
   }
 
 module _ (n t l : ℕ) (bytes memory : List ℕ) where
@@ -81,8 +82,8 @@ module _ (n t l : ℕ) (bytes memory : List ℕ) where
       rw (open-accepted n t l bytes memory c) (begun-ok n t l bytes memory (f .0) (f .1) (f .2))
 
   -- every tracker is idle then
-  begun-idle : (o : Out) → o .state .trackers ≡ replicate 8 idle → (x : ℕ) → trackerAt (o .state .trackers) x .phase ≡ Idle
-  begun-idle o e x = ap (λ (ts : List Tracker). trackerAt ts x .phase) e ∙ ap (λ (u : Tracker). u .phase) (getD-replicate 8 x idle)
+  begun-idle : (o : Out) → o .state .trackers ≡ replicate mostTrackers idle → (x : ℕ) → trackerAt (o .state .trackers) x .phase ≡ Idle
+  begun-idle o e x = ap (λ (ts : List Tracker). trackerAt ts x .phase) e ∙ ap (λ (u : Tracker). u .phase) (getD-replicate mostTrackers x idle)
 
   pub fresh-idle : (x : ℕ) → trackerAt (fresh n t l bytes memory .state .trackers) x .phase ≡ Idle
   fresh-idle = begun-idle (fresh n t l bytes memory) (fresh-trackers n t l bytes memory)

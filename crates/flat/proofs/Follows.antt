@@ -3,16 +3,15 @@ use mathlib.Core.Path.{_≡_, refl, sym, ap, _∙_, subst}
 use mathlib.Core.Bool.{Bool, true, false}
 use mathlib.Core.List.{List, []}
 use mathlib.Core.Logic.{_⊎_, inl, inr, ⊎-elim}
-use Prim.Native.Nat.{ℕ, _*_, _<_, _≤_}
+use Prim.Native.Nat.{ℕ, _<_}
 use native.Mathlib.Omega.{arith}
 use lib.Dec.{ltb}
 use lib.ListN.{set}
-use borrow.Author.Tests.{lt-ltb, le-ltb}
 use Rattle.laws.specs.Choice.{pick}
 use Rattle.laws.proofs.Choice.{true-or-false}
 use Rattle.laws.specs.Refusal.{refusal, unless}
 use Rattle.laws.proofs.Refusal.{refused-or-not, unless-0, unless-no}
-use Rattle.geometry.specs.TagMemory.{leafOf}
+use Rattle.geometry.specs.TagMemory.{leafOf, values}
 use Rattle.tracker.specs.declared.Access.{Access}
 use Rattle.tracker.specs.declared.Tracker.{Tracker}
 use Rattle.tracker.specs.Tracker.{isIdle, issued, firstPhase}
@@ -25,7 +24,7 @@ use Rattle.rules.specs.Step.{byPhase}
 use Rattle.rules.specs.Calls.{Out, refused, accepted, withTracker, withLines, issueTests, issueNo, issue, stepped, stepTests, stepNo, step, allIdle, drainNo, drain}
 use Rattle.rules.specs.Run.{Call, issues, steps, drains, lends, Kept, kept, elsewhere, does}
 use Rattle.rules.proofs.Whole.{Whole, whole-facts}
-use Rattle.rules.proofs.Calls.{rows-fit, turn-byPhase, step-is, step-sound, step-refused, step-free, issue-refused, issue-accepted, issue-free, issue-kept, drain-is, drain-sound, drain-busy, drains as drains-lined}
+use Rattle.rules.proofs.Calls.{situation, turn-byPhase, step-is, step-sound, step-refused, step-free, issue-refused, issue-accepted, issue-free, issue-kept, drain-is, drain-sound, drain-busy, drains as drains-lined}
 use Rattle.flat.specs.Flat.{Row, Flat, Reply, Course, courseOf, says, rowBy, trackerBy, effectBy, withRow, refuse, flatIssue, flatStep, flatDrain, flatDoes}
 use Rattle.flat.specs.Demand.{found, Value32}
 use Rattle.flat.proofs.Agrees.{Fits, Agrees, finish-busy, agrees-same, agrees-rows}
@@ -94,17 +93,17 @@ module _ {k : Kept} {row : Row} (a : Ok k row) where
       first-fits true = tt
       first-fits false = tt
 
-      value-small : access .value < 4294967296 → (b : Bool) → pick b (access .value) 0 < 4294967296
+      value-small : access .value < values → (b : Bool) → pick b (access .value) 0 < values
       value-small q true = q
       value-small q false = omega arith
 
-      issued-agrees : access .value < 4294967296 → Agrees (k .state .n) (k .state .l) (rowsOf k) (set (k .state .trackers) x (issued access)) row
+      issued-agrees : access .value < values → Agrees (k .state .n) (k .state .l) (rowsOf k) (set (k .state .trackers) x (issued access)) row
       issued-agrees q =
           let h = issue-free (k .state) (k .bytes) (k .memory) (a .is-whole) (a .right) x access free in
           agrees-same (a .agrees) x (omega (arith, w .tracked .long, h .0)) (issued access) (value-small q (access .write)) (a .agrees .good) (λ b bl. refl) (a .agrees .lined)
           (λ j f. finish-busy (trackerAt (k .state .trackers) x .phase) (h .2) (f .is-there)) (first-fits (access .bottom))
 
-    follows-issue : access .value < 4294967296 → Follows k (issues x access) row
+    follows-issue : access .value < values → Follows k (issues x access) row
     follows-issue q = go (refused-or-not (refusal (issueTests (k .state .n) (k .state .t) x access (k .state .trackers))))
       where
         go : (refusal (issueTests (k .state .n) (k .state .t) x access (k .state .trackers)) ≡ 0) ⊎ (0 < refusal (issueTests (k .state .n) (k .state .t) x access (k .state .trackers)))
@@ -156,8 +155,7 @@ module _ {k : Kept} {row : Row} (a : Ok k row) where
       c = courseOf (flatWith k row) in-line x
 
       plays : Plays (k .state .n) (k .state .l) x (k .state .trackers) row u c (byPhase (k .state .n) (k .state .l) (k .state .hand) x u (rowsOf k) (u .phase))
-      plays = plays-byPhase (k .state .n) (k .state .t) (k .state .l) (k .state .hand) x (k .state .trackers) (rowsOf k) (w .limits-ok) (w .lined) (w .tracked) xl (w .hand-lt)
-          (rows-fit (k .state) (k .bytes) (k .memory) (a .is-whole) (a .right)) u refl busy row (a .agrees) in-line _ refl refl (u .phase) refl
+      plays = plays-byPhase (situation (k .state) (k .bytes) (k .memory) (a .is-whole) (a .right) x xl busy) row (a .agrees) in-line _ refl refl (u .phase) refl
 
       follows-turn : Follows k (steps x) row
       follows-turn =

@@ -9,11 +9,10 @@ use native.Mathlib.Omega.{arith}
 use native.Mathlib.Decide.{ℕ-discrete}
 use lib.ListN.{length}
 use Rattle.geometry.proofs.Places.{leafOf-lt, byteOf-lt, group-lt, mapBlockOf-bit, mapByteOf-lt, bit-outside, leaf-has-bit}
-use Rattle.geometry.specs.TagMemory.{groups}
+use Rattle.geometry.specs.TagMemory.{groups, leafOf, byteOf, mapBlockOf, mapByteOf, mapBitOf, mapBlocks, blocks, mapPlace, groupPlace}
 use Rattle.laws.specs.Choice.{pick}
 use Rattle.laws.proofs.Choice.{not-both-ways, true-or-false}
 use Rattle.laws.proofs.Splice.{lt-or-ge}
-use Rattle.geometry.specs.TagMemory.{leafOf, byteOf, mapBlockOf, mapByteOf, mapBitOf, mapBlocks, blocks, mapPlace, groupPlace}
 use Rattle.block.specs.Block.{groupAt, bitAt, allZero}
 use Rattle.block.proofs.BitsOf.{bitAt-not, bitAt-lt}
 use Rattle.memory.specs.PlainReading.{leafBit, plainGroup}

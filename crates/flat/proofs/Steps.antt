@@ -9,32 +9,30 @@ use native.Mathlib.Decide.{ℕ-discrete}
 use lib.Dec.{eqb, ltb}
 use lib.ListN.{length, set}
 use borrow.Author.Tests.{lt-ltb, le-ltb, eqb-true}
-use Rattle.tracker.specs.Tracker.{atFinish}
+use Rattle.tracker.specs.Tracker.{atFinish, idle, isIdle, holdsAt, goesTo, counted}
 use Rattle.tracker.proofs.Phases.{idle-loose, finish-holds}
 use Rattle.geometry.proofs.Places.{leafOf-lt, byteOf-lt, group-lt, mapBlockOf-lt, leaf-has-bit, mapByteOf-lt, mapBitOf-lt}
-use Rattle.geometry.specs.TagMemory.{groups}
+use Rattle.geometry.specs.TagMemory.{groups, values, blocks, mapBlocks, leafOf, byteOf, mapBlockOf, mapByteOf, mapBitOf, blockPlace}
 use Rattle.laws.specs.Choice.{pick, both, no as negated}
 use Rattle.laws.proofs.Choice.{not-both-ways, true-or-false, both-left, both-right, both-true, both-false-left, both-false-right}
 use Rattle.laws.proofs.Splice.{lt-or-ge}
 use Rattle.laws.proofs.Scan.{all-is, all-fails}
-use Rattle.geometry.specs.TagMemory.{blocks, mapBlocks, leafOf, byteOf, mapBlockOf, mapByteOf, mapBitOf, blockPlace}
 use Rattle.block.specs.Block.{groupAt, putGroup, putBit, allZero}
 use Rattle.tracker.specs.declared.Phase.{Phase}
 use Rattle.tracker.specs.declared.Phase.the-variants.{Idle, Probe, Map, Leaf, Set, Clear}
 use Rattle.tracker.specs.declared.Tracker.{Tracker}
-use Rattle.tracker.specs.Tracker.{idle, isIdle, isIdleAt, holdsAt, goesTo, counted}
 use Rattle.tracker.specs.Answer.{Said, read, done, same}
 use Rattle.line.specs.Word.{blockOf, holder, held, word}
 use Rattle.line.specs.Find.{lineOf}
 use Rattle.rules.specs.State.{Rows, trackerAt}
-use Rattle.rules.specs.Whole.{limits, mapBlock, holds}
-use Rattle.rules.specs.Place.{lineBytes, rowsFit, placeLine, placeHand, Brought, filled, withMemory, withLines, writtenBack, bringIn}
+use Rattle.rules.specs.Whole.{mapBlock, holds}
+use Rattle.rules.specs.Place.{lineBytes, placeLine, placeHand, Brought, filled, withMemory, withLines, writtenBack, bringIn}
 use Rattle.rules.specs.Step.{Turned, ends, goes, waits, turnsOf, groupIn, bitIn, letGo, probe, holdsMap, onMap, map, leafRead, putIn, writeUnder1, writeUnder0, newLeaf, leafWrite, finish, holding, byPhase}
 use Rattle.rules.proofs.Words.{held-holder, holder-held}
-use Rattle.rules.proofs.Lined.{at, Has, Held, Lined, low, lineOf-is, lineOf-has}
-use Rattle.rules.proofs.Whole.{heldOf, heldOf-yes, heldOf-holds, Tracked, l-least, t-most}
+use Rattle.rules.proofs.Lined.{at, Has, Held, low, lineOf-is, lineOf-has}
+use Rattle.rules.proofs.Whole.{heldOf, heldOf-yes, heldOf-holds, l-least, t-most}
 use Rattle.rules.proofs.Placed.{Brings, brings, place-loose, place-memory}
-use Rattle.rules.proofs.Keeps.{blocks-small, j-lt, j-has, j-holder}
+use Rattle.rules.proofs.Keeps.{Situation, blocks-small, j-lt, j-has, j-holder}
 use Rattle.rules.proofs.Ways.{probe-miss, probe-read, probe-same, probe-other, map-read, map-same, map-create, map-hold, map-wait, map-on, leafRead-is, write1-same, write1-put, write0-same, write0-place, leafWrite-0, leafWrite-1, bytesWith, putIn-empty, putIn-done, inLine-is}
 use Rattle.flat.specs.Flat.{Row, put, tagged, after, answer, Course, course, says, rowBy, trackerBy, someHolds}
 use Rattle.flat.proofs.Views.{Has64, group-block, bit-block, group-here, group-there, group-whole, bit-here, bit-there, bit-whole, put-groups, group-length, put-long, zeros, zeros-long, new-leaf}
@@ -88,14 +86,36 @@ module _ (n l hand j : ℕ) (u : Tracker) (r : Rows) where
 one-zero : {a : ℕ} → a ≡ 1 → a ≡ 0 → ⊥
 one-zero {a} p q = omega arith
 
-module _ (n t l hand x : ℕ) (ts : List Tracker) (r : Rows) (lim : limits n t l ≡ true) (v : Lined (blocks n) l t (heldOf n ts) (r .lines)) (k : Tracked n t ts)
-    (xl : x < t) (hl : hand < l) (fit : rowsFit l (r .lines) (r .bytes) ≡ true) (u : Tracker) (is : trackerAt ts x ≡ u) (busy : isIdle u ≡ false)
-    (row : Row) (A : Agrees n l r ts row) where
+module _ (sit : Situation) (row : Row) (A : Agrees (sit .n) (sit .l) (sit .r) (sit .ts) row) where
+  abbrev n : ℕ
+  n = sit .n
+
+  abbrev t : ℕ
+  t = sit .t
+
+  abbrev l : ℕ
+  l = sit .l
+
+  abbrev hand : ℕ
+  hand = sit .hand
+
+  abbrev x : ℕ
+  x = sit .x
+
+  abbrev ts : List Tracker
+  ts = sit .ts
+
+  abbrev r : Rows
+  r = sit .r
+
+  abbrev u : Tracker
+  u = sit .u
+
   xlong : x < length ts
-  xlong = omega (arith, k .long)
+  xlong = omega (arith, sit .tracked .long)
 
   group-ok : u .group < groups n
-  group-ok = rw (← is) (k .group-lt x (rw is busy))
+  group-ok = subst (λ (w : Tracker). w .group < groups n) (sit .is-u) (sit .tracked .group-lt x (ap isIdle (sit .is-u) ∙ sit .busy))
 
   leaf-ok : leafOf (u .group) < n
   leaf-ok = leafOf-lt n _ group-ok
@@ -107,23 +127,23 @@ module _ (n t l hand x : ℕ) (ts : List Tracker) (r : Rows) (lim : limits n t l
   bit-ok = leaf-has-bit n _ leaf-ok
 
   few : t < l
-  few = omega (arith, l-least n t l lim)
+  few = omega (arith, l-least n t l (sit .limits-ok))
 
   small : blocks n < 16777215
-  small = blocks-small n t l lim
+  small = blocks-small n t l (sit .limits-ok)
 
-  value-ok : u .value < 4294967296
-  value-ok = subst (λ (z : Tracker). z .value < 4294967296) is (A .small x)
+  value-ok : u .value < values
+  value-ok = subst (λ (z : Tracker). z .value < values) (sit .is-u) (A .small x)
 
-  zero-ok : 0 < 4294967296
+  zero-ok : 0 < values
   zero-ok = omega arith
 
   not-at-finish : (p : Phase) → u .phase ≡ p → atFinish p ≡ false → (j : ℕ) → Finishes (trackerAt ts x) j → ⊥
-  not-at-finish p e f j h = not-finish (trackerAt ts x .phase) p (ap (λ (z : Tracker). z .phase) is ∙ e) f (h .is-there)
+  not-at-finish p e f j h = not-finish (trackerAt ts x .phase) p (ap (λ (z : Tracker). z .phase) (sit .is-u) ∙ e) f (h .is-there)
 
   -- a tracker at Leaf or Finish is below t, and its map block's line names it
   named-line : (y : ℕ) → holdsAt (trackerAt ts y .phase) ≡ true → Held (r .lines) y (mapBlock n (trackerAt ts y .group))
-  named-line y h = v .in-line y (mapBlock n (trackerAt ts y .group)) (⊎-elim (λ q. q) (λ q. absurd (not-both-ways h (idle-loose (trackerAt ts y .phase) (k .above y q)))) (lt-or-ge y t)) (heldOf-yes n ts y h)
+  named-line y h = sit .lined .in-line y (mapBlock n (trackerAt ts y .group)) (⊎-elim (λ q. q) (λ q. absurd (not-both-ways h (idle-loose (trackerAt ts y .phase) (sit .tracked .above y q)))) (lt-or-ge y t)) (heldOf-yes n ts y h)
 
   finish-block : (y j : ℕ) → Finishes (trackerAt ts y) j → mapBlock n (trackerAt ts y .group) ≡ n + mapBlockOf j
   finish-block y j f = ap (λ (z : ℕ). n + mapBlockOf z) (f .is-leaf)
@@ -150,7 +170,7 @@ module _ (n t l hand x : ℕ) (ts : List Tracker) (r : Rows) (lim : limits n t l
 
   -- x goes to u' with rows of the same contents
   moves-on : {rr : Rows} → Same (blocks n) l r rr → ((i j : ℕ) → j < n → Has (rr .lines) i j → tagged row j ≡ true) → (p : Phase) → u .phase ≡ p → atFinish p ≡ false
-      → (u' : Tracker) → u' .value < 4294967296 → Fits row u' (u' .phase) → Agrees n l rr (set ts x u') row
+      → (u' : Tracker) → u' .value < values → Fits row u' (u' .phase) → Agrees n l rr (set ts x u') row
   moves-on S ln p e f u' sm ft = agrees-same A x xlong u' sm (S .good) (S .same) ln (not-at-finish p e f) ft
 
   -- Probe
@@ -183,24 +203,24 @@ module _ (n t l hand x : ℕ) (ts : List Tracker) (r : Rows) (lim : limits n t l
 
   -- bringing in
   map-brings : Brings (blocks n) l t (heldOf n ts) r (mapBlock n (u .group)) (bringIn l hand (mapBlock n (u .group)) r)
-  map-brings = brings r hand (mapBlock n (u .group)) v few fit hl map-ok small
+  map-brings = brings r hand (mapBlock n (u .group)) (sit .lined) few (sit .rows-fit) (sit .hand-lt) map-ok small
 
   map-in : BringsIn (blocks n) l r (mapBlock n (u .group)) (bringIn l hand (mapBlock n (u .group)) r)
-  map-in = brings-in r hand (mapBlock n (u .group)) (A .good) v few fit map-ok small
+  map-in = brings-in r hand (mapBlock n (u .group)) (A .good) (sit .lined) few (sit .rows-fit) map-ok small
 
   leaf-small : leafOf (u .group) < blocks n
   leaf-small = omega (arith, leaf-ok)
 
   leaf-brings : Brings (blocks n) l t (heldOf n ts) r (leafOf (u .group)) (bringIn l hand (leafOf (u .group)) r)
-  leaf-brings = brings r hand (leafOf (u .group)) v few fit hl leaf-small small
+  leaf-brings = brings r hand (leafOf (u .group)) (sit .lined) few (sit .rows-fit) (sit .hand-lt) leaf-small small
 
   leaf-in : BringsIn (blocks n) l r (leafOf (u .group)) (bringIn l hand (leafOf (u .group)) r)
-  leaf-in = brings-in r hand (leafOf (u .group)) (A .good) v few fit leaf-small small
+  leaf-in = brings-in r hand (leafOf (u .group)) (A .good) (sit .lined) few (sit .rows-fit) leaf-small small
 
   -- Map
   module _ (ph : u .phase ≡ Map) where
     mark-fits : x + 1 < 128
-    mark-fits = omega (arith, t-most n t l lim)
+    mark-fits = omega (arith, t-most n t l (sit .limits-ok))
 
     map-lined : (i j : ℕ) → j < n → Has (bringIn l hand (mapBlock n (u .group)) r .rows .lines) i j → tagged row j ≡ true
     map-lined i j q h = ⊎-elim (λ o. A .lined i j q o) (λ e. absurd (let z : j ≡ n + mapBlockOf (leafOf (u .group)) = e in omega arith)) (map-in .had i j h)
@@ -245,7 +265,7 @@ module _ (n t l hand x : ℕ) (ts : List Tracker) (r : Rows) (lim : limits n t l
     named-some q h =
         let i = lineOf (r .lines) l (mapBlock n (u .group)) in
         let p : 0 < holder (at (r .lines) i) = held-holder _ h in
-        let o = v .named i (mapBlock n (u .group)) (lineOf-has (r .lines) l _ q) p in
+        let o = sit .lined .named i (mapBlock n (u .group)) (lineOf-has (r .lines) l _ q) p in
         let z = o .0 in
         let hy : holds n (trackerAt ts (holder (at (r .lines) i) - 1)) (mapBlock n (u .group)) ≡ true = heldOf-holds n ts _ _ (o .1) in
         let yl : holder (at (r .lines) i) - 1 < t = omega arith in
@@ -265,10 +285,10 @@ module _ (n t l hand x : ℕ) (ts : List Tracker) (r : Rows) (lim : limits n t l
     not-named e y h m =
         let w = named-line y h in
         let hm : Has (r .lines) (w .line) (mapBlock n (u .group)) = rw m at (w .has-it) in
-        let i : lineOf (r .lines) l (mapBlock n (u .group)) ≡ w .line = lineOf-is v (w .line) _ hm in
+        let i : lineOf (r .lines) l (mapBlock n (u .group)) ≡ w .line = lineOf-is (sit .lined) (w .line) _ hm in
         let p : 0 < holder (at (r .lines) (w .line)) = omega (arith, w .is-holder) in
         let hh : held (at (r .lines) (lineOf (r .lines) l (mapBlock n (u .group)))) ≡ true = rw i (holder-held _ p) in
-        not-both-ways (both-true _ _ (rw i (lt-ltb _ _ (low v (w .line) _ hm))) hh) e
+        not-both-ways (both-true _ _ (rw i (lt-ltb _ _ (low (sit .lined) (w .line) _ hm))) hh) e
 
     plays-map : (found hd : Bool) → hd ≡ someHolds n t ts (mapBlock n (u .group)) → Plays n l x ts row u (course row found hd u Map) (map n l hand x u r)
     plays-map found hd hs = go (lt-or-ge (lineOf (r .lines) l (mapBlock n (u .group))) l) (true-or-false (held (at (r .lines) (lineOf (r .lines) l (mapBlock n (u .group))))))
@@ -281,7 +301,7 @@ module _ (n t l hand x : ℕ) (ts : List Tracker) (r : Rows) (lim : limits n t l
             → (held (at (r .lines) (lineOf (r .lines) l (mapBlock n (u .group)))) ≡ true) ⊎ (held (at (r .lines) (lineOf (r .lines) l (mapBlock n (u .group)))) ≡ false)
             → Plays n l x ts row u (course row found hd u Map) (map n l hand x u r)
         go (inl q) (inl h) = rw (map-wait n l hand x u r q h)
-            (plays-waits hand (map-waits row found hd u (hs ∙ named-some q h)) (moves-on here (A .lined) Map ph refl (counted u) value-ok (rw ph tt)))
+            (plays-waits hand (map-waits row found hd u (hs ∙ named-some q h)) (moves-on here (A .lined) Map ph refl (counted u) value-ok (subst (λ (p : Phase). Fits row (counted u) p) (sym ph) tt)))
         go (inl q) (inr h) = on (both-false-right _ _ h)
         go (inr q) h = on (both-false-left _ _ (le-ltb _ _ q))
 
@@ -291,17 +311,17 @@ module _ (n t l hand x : ℕ) (ts : List Tracker) (r : Rows) (lim : limits n t l
     j = lineOf (r .lines) l (mapBlock n (u .group))
 
     in-j : Has (r .lines) (lineOf (r .lines) l (mapBlock n (u .group))) (mapBlock n (u .group))
-    in-j = j-has n t l hand x ts r lim v k xl hl fit u is busy h
+    in-j = j-has sit h
 
     named-j : holder (at (r .lines) (lineOf (r .lines) l (mapBlock n (u .group)))) ≡ x + 1
-    named-j = j-holder n t l hand x ts r lim v k xl hl fit u is busy h
+    named-j = j-holder sit h
 
     -- no other tracker holds it
     alone : (y : ℕ) → (y ≡ x → ⊥) → holdsAt (trackerAt ts y .phase) ≡ true → mapBlock n (trackerAt ts y .group) ≡ mapBlock n (u .group) → ⊥
     alone y ne hy e =
         let w = named-line y hy in
         let hm : Has (r .lines) (w .line) (mapBlock n (u .group)) = rw e at (w .has-it) in
-        let i : w .line ≡ j = v .one (w .line) j (mapBlock n (u .group)) hm in-j in
+        let i : w .line ≡ j = sit .lined .one (w .line) j (mapBlock n (u .group)) hm in-j in
         let z : holder (at (r .lines) j) ≡ y + 1 = ap (λ (a : ℕ). holder (at (r .lines) a)) (sym i) ∙ w .is-holder in
         ne (omega (arith, named-j))
 
@@ -340,7 +360,7 @@ module _ (n t l hand x : ℕ) (ts : List Tracker) (r : Rows) (lim : limits n t l
       plays-finish : Plays n l x ts row u Course.finishes (finish n hand j bit u r)
       unfolding finish
       plays-finish = plays-finishes hand refl (agrees-bit A x xlong idle zero-ok (leafOf (u .group)) bit leaf-ok bl tg
-          (λ k' f. sym (f .is-leaf) ∙ ap (λ (z : Tracker). leafOf (z .group)) is)
+          (λ k' f. sym (f .is-leaf) ∙ ap (λ (z : Tracker). leafOf (z .group)) (sit .is-u))
           (written-good (A .good) bit-write)
           (λ d q ne. written-other (A .good) bit-write d q ne)
           (written-here (A .good) bit-write ∙ ap (λ (c : List ℕ). putBit c fo fb bit) (sym (content-in (A .good) j fm in-j)))
@@ -500,7 +520,7 @@ module _ (n t l hand x : ℕ) (ts : List Tracker) (r : Rows) (lim : limits n t l
             p = placeLine l hand (r .lines) (r .bytes)
 
             p-lt : p < l
-            p-lt = place-loose r hand v few fit .0
+            p-lt = place-loose r hand (sit .lined) few (sit .rows-fit) .0
 
             create : Placing (blocks n) l r p (leafOf (u .group)) true (newLeaf u)
             create = record {
@@ -536,7 +556,7 @@ module _ (n t l hand x : ℕ) (ts : List Tracker) (r : Rows) (lim : limits n t l
               where
                 go : (lineOf (r .lines) l (leafOf (u .group)) < l) ⊎ (l ≤ lineOf (r .lines) l (leafOf (u .group))) → Plays n l x ts row u (course row found hd u Leaf) (writeUnder0 l hand j u r)
                 go (inl q) = absurd (none-lined _ (lineOf-has (r .lines) l (leafOf (u .group)) q))
-                go (inr q) = rw (write0-place l hand j u r nz q p-lt, place-memory r hand v few fit) sets
+                go (inr q) = rw (write0-place l hand j u r nz q p-lt, place-memory r hand (sit .lined) few (sit .rows-fit)) sets
 
           plays-under0 : Plays n l x ts row u (course row found hd u Leaf) (writeUnder0 l hand j u r)
           plays-under0 = go (ℕ-discrete (u .value) 0)
@@ -556,21 +576,24 @@ module _ (n t l hand x : ℕ) (ts : List Tracker) (r : Rows) (lim : limits n t l
             go (inr tg) = rw (leafWrite-0 l hand j u r (bit ∙ rw tg)) (plays-under0 tg)
 
   fits-now : Fits row u (u .phase)
-  fits-now = subst (λ (z : Tracker). Fits row z (z .phase)) is (A .fits x)
+  fits-now = subst (λ (z : Tracker). Fits row z (z .phase)) (sit .is-u) (A .fits x)
+
+  fits-at : (p : Phase) → u .phase ≡ p → Fits row u p
+  fits-at p e = subst (λ (q : Phase). Fits row u q) e fits-now
 
   -- every step
   pub plays-byPhase : (found hd : Bool) → found ≡ ltb (lineOf (r .lines) l (leafOf (u .group))) l → hd ≡ someHolds n t ts (mapBlock n (u .group))
       → (p : Phase) → u .phase ≡ p → Plays n l x ts row u (course row found hd u p) (byPhase n l hand x u r p)
-  plays-byPhase found hd f s Idle e = absurd (not-both-ways (rw e) busy)
+  plays-byPhase found hd f s Idle e = absurd (not-both-ways (rw e) (sit .busy))
   plays-byPhase found hd f s Probe e = plays-probe e found hd f
   plays-byPhase found hd f s Map e = plays-map e found hd s
-  plays-byPhase found hd f s Leaf e = rw (inLine-is n l hand u r Leaf (j-lt n t l hand x ts r lim v k xl hl fit u is busy (rw e))) (go (true-or-false (u .write)))
+  plays-byPhase found hd f s Leaf e = rw (inLine-is n l hand u r Leaf (j-lt sit (rw e))) (go (true-or-false (u .write)))
     where
       go : (u .write ≡ true) ⊎ (u .write ≡ false)
           → Plays n l x ts row u (course row found hd u Leaf) (holding n l hand (lineOf (r .lines) l (mapBlock n (u .group))) u r Leaf)
       go (inl w) = subst (λ (o : Turned). Plays n l x ts row u (course row found hd u Leaf) o) (sym (at-leaf-write n l hand _ u r w)) (plays-leafWrite (rw e) e found hd w)
-      go (inr w) = subst (λ (o : Turned). Plays n l x ts row u (course row found hd u Leaf) o) (sym (at-leaf-read n l hand _ u r w)) (plays-leafRead (rw e) e found hd w ((rw e at fits-now) w))
-  plays-byPhase found hd f s Set e = rw (inLine-is n l hand u r Set (j-lt n t l hand x ts r lim v k xl hl fit u is busy (rw e)))
-      (plays-finish (rw e) 1 (omega arith) (rw (rw e at fits-now)))
-  plays-byPhase found hd f s Clear e = rw (inLine-is n l hand u r Clear (j-lt n t l hand x ts r lim v k xl hl fit u is busy (rw e)))
-      (plays-finish (rw e) 0 (omega arith) (rw (rw e at fits-now)))
+      go (inr w) = subst (λ (o : Turned). Plays n l x ts row u (course row found hd u Leaf) o) (sym (at-leaf-read n l hand _ u r w)) (plays-leafRead (rw e) e found hd w (fits-at Leaf e w))
+  plays-byPhase found hd f s Set e = rw (inLine-is n l hand u r Set (j-lt sit (rw e)))
+      (plays-finish (rw e) 1 (omega arith) (rw (fits-at Set e)))
+  plays-byPhase found hd f s Clear e = rw (inLine-is n l hand u r Clear (j-lt sit (rw e)))
+      (plays-finish (rw e) 0 (omega arith) (rw (fits-at Clear e)))

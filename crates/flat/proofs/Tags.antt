@@ -3,17 +3,15 @@ use mathlib.Core.Path.{_≡_, sym, ap, _∙_}
 use mathlib.Core.Bool.{true, false}
 use mathlib.Core.List.{List}
 use mathlib.Core.Logic.{_⊎_, inl, inr, ⊎-elim}
-use Prim.Native.Nat.{ℕ, _+_, _*_, _%_, _<_}
-use native.Mathlib.Omega.{arith}
+use Prim.Native.Nat.{ℕ, _*_, _<_}
 use lib.Dec.{eqb}
 use borrow.Author.Tests.{eq-eqb, eqb-true}
 use lib.ListN.{length}
 use Rattle.geometry.proofs.Places.{slotOf, slotOf-lt, groupOn-slotOf, leafOf-groupOn, byteOf-groupOn}
-use Rattle.geometry.specs.TagMemory.{groups, groupOn}
+use Rattle.geometry.specs.TagMemory.{groupOn, leafOf, byteOf}
 use Rattle.laws.specs.Choice.{no}
 use Rattle.laws.proofs.Choice.{true-or-false, no-false, not-both-ways}
 use Rattle.laws.proofs.Scan.{all-at, all-is, all-same}
-use Rattle.geometry.specs.TagMemory.{leafOf, byteOf}
 use Rattle.block.specs.Block.{groupAt, allZero}
 use Rattle.flat.specs.Flat.{Row, tagged}
 use Rattle.flat.proofs.Views.{empty-group, groups-empty}

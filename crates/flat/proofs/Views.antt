@@ -18,7 +18,7 @@ use Rattle.laws.specs.Bytes.{part, splice, putW, bytes}
 use Rattle.laws.proofs.Splice.{length-splice, part-same, part-other, getD-part, splice-in}
 use Rattle.laws.proofs.Put.{length-part, putW-fits}
 use Rattle.laws.proofs.Value.{length-bytes}
-use Rattle.geometry.specs.TagMemory.{leafOf, byteOf}
+use Rattle.geometry.specs.TagMemory.{leafOf, byteOf, values}
 use Rattle.memory.specs.True.{blockAt}
 use Rattle.block.specs.Block.{groupAt, putGroup, bitAt, putBit, allZero}
 use Rattle.block.proofs.Groups.{groupAt-fits, putGroup-fits, groupAt-putGroup-same, groupAt-putGroup-other}
@@ -130,14 +130,14 @@ module _ (m : List ℕ) (b : ℕ) (h : Has64 m b) where
 
 -- One block of 64 bytes as its 16 groups.
 module _ (c : List ℕ) (lc : length c ≡ 64) where
-  pub group-same : (g v : ℕ) → v < 4294967296 → groupAt (putGroup c (byteOf g) v) (byteOf g) ≡ v
+  pub group-same : (g v : ℕ) → v < values → groupAt (putGroup c (byteOf g) v) (byteOf g) ≡ v
   group-same g v q = groupAt-putGroup-same c (byteOf g) v (omega (arith, byteOf-lt g)) q
 
   pub group-other : (g h v : ℕ) → leafOf h ≡ leafOf g → (h ≡ g → ⊥) → groupAt (putGroup c (byteOf g) v) (byteOf h) ≡ groupAt c (byteOf h)
   group-other g h v e n = groupAt-putGroup-other c (byteOf g) v (byteOf h) (omega (arith, byteOf-lt g)) (omega (arith, byteOf-lt h)) (byteOf-apart h g e n)
 
   -- the groups of the leaf with v put in
-  pub put-groups : (g h v : ℕ) → v < 4294967296 → leafOf h ≡ leafOf g → groupAt (putGroup c (byteOf g) v) (byteOf h) ≡ put (λ i. groupAt c (byteOf i)) g v h
+  pub put-groups : (g h v : ℕ) → v < values → leafOf h ≡ leafOf g → groupAt (putGroup c (byteOf g) v) (byteOf h) ≡ put (λ i. groupAt c (byteOf i)) g v h
   put-groups g h v q e = go (ℕ-discrete h g)
     where
       go : Dec (h ≡ g) → groupAt (putGroup c (byteOf g) v) (byteOf h) ≡ put (λ i. groupAt c (byteOf i)) g v h
@@ -181,6 +181,6 @@ unfolding allZero all both
 zeros-empty = refl
 
 -- and v put into them: every other group is 0
-pub new-leaf : (row : Row) (g h v : ℕ) → v < 4294967296 → leafOf h ≡ leafOf g → row h ≡ 0 → put row g v h ≡ groupAt (putGroup zeros (byteOf g) v) (byteOf h)
+pub new-leaf : (row : Row) (g h v : ℕ) → v < values → leafOf h ≡ leafOf g → row h ≡ 0 → put row g v h ≡ groupAt (putGroup zeros (byteOf g) v) (byteOf h)
 new-leaf row g h v q e z =
     ap (pick (eqb h g) v) (z ∙ sym (empty-group zeros zeros-long h zeros-empty)) ∙ sym (put-groups zeros zeros-long g h v q e)

@@ -3,13 +3,12 @@ use mathlib.Core.Path.{_≡_, refl}
 use mathlib.Core.Bool.{true, false}
 use mathlib.Core.List.{List, [], _∷_}
 use lib.ListN.{replicate}
-use Rattle.geometry.specs.TagMemory.{leafOf, byteOf, groups, mapBlockOf, mapByteOf, mapBitOf, mapBlocks}
+use Rattle.geometry.specs.TagMemory.{leafOf, byteOf, groups, mapBlockOf, mapByteOf, mapBitOf, mapBlocks, inLimits}
 use Rattle.laws.specs.Refusal.{refusal, unless}
 use Rattle.laws.specs.Choice.{both, implies, no}
 use Rattle.laws.specs.Bytes.{part, splice, fits, putW, value, bytes, numberAt}
 use Rattle.laws.specs.Scan.{first, all}
 use Rattle.laws.specs.Bits.{bitOf, withBit}
-use Rattle.geometry.specs.TagMemory.{inLimits}
 use Rattle.block.specs.Block.{bitAt, putBit, allZero, blockOr0}
 use Rattle.memory.specs.PlainReading.{leafBit, plainGroup}
 use Rattle.memory.specs.True.{trueAt, isTrue, clearedMap}

@@ -3,7 +3,7 @@ use mathlib.Core.List.{List, [], _∷_}
 use mathlib.Core.Bool.{Bool, false}
 use Prim.Native.Nat.{_<_}
 use lib.Dec.{ltb}
-use Rattle.geometry.specs.TagMemory.{leafOf}
+use Rattle.geometry.specs.TagMemory.{leafOf, values}
 use Rattle.memory.specs.PlainReading.{plainGroup}
 use Rattle.line.specs.Find.{lineOf}
 use Rattle.rules.specs.State.{trackerAt}
@@ -28,7 +28,7 @@ flatOf k = record { n = k .state .n; t = k .state .t; l = k .state .l; row = pla
 
 -- a call's value is an unsigned 32-bit number
 abbrev pub Value32 : Call → Type 0
-Value32 (issues x access) = access .value < 4294967296
+Value32 (issues x access) = access .value < values
 Value32 (steps x) = Unit {0}
 Value32 drains = Unit {0}
 Value32 (lends b m c) = Value32 c

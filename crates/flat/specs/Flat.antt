@@ -5,11 +5,10 @@ use mathlib.Core.Bool.{Bool, true, false}
 use Prim.Native.Nat.{ℕ}
 use lib.Dec.{eqb}
 use lib.ListN.{set}
-use Rattle.geometry.specs.TagMemory.{groupOn}
+use Rattle.geometry.specs.TagMemory.{groupOn, leafOf}
 use Rattle.laws.specs.Choice.{pick, both, implies, no}
 use Rattle.laws.specs.Scan.{all}
 use Rattle.laws.specs.Refusal.{refusal, unless}
-use Rattle.geometry.specs.TagMemory.{leafOf}
 use Rattle.tracker.specs.declared.Phase.{Phase}
 use Rattle.tracker.specs.declared.Phase.the-variants.{Idle, Probe, Map, Leaf, Set, Clear}
 use Rattle.tracker.specs.declared.Access.{Access}

@@ -5,6 +5,9 @@ use lib.Dec.{leb}
 use Rattle.laws.specs.Choice.{both}
 
 -- "A group is the 8 tags of one 64-byte data block: an unsigned 32-bit number, tag j in bits 4j to 4j+3"
+abbrev pub values : ℕ
+values = 4294967296
+
 unfoldable pub tagOf : ℕ → ℕ → ℕ
 tagOf v zero = v % 16
 tagOf v (suc j) = tagOf (v / 16) j
@@ -24,8 +27,18 @@ abbrev pub groupOn : ℕ → ℕ → ℕ
 groupOn k j = groups k + j
 
 -- "There are n leaves, 1 to 262,144."
+abbrev pub mostLeaves : ℕ
+mostLeaves = 262144
+
 unfoldable pub inLimits : ℕ → Bool
-inLimits n = both (leb 1 n) (leb n 262144)
+inLimits n = both (leb 1 n) (leb n mostLeaves)
+
+-- "There are T trackers, 1 to 8, and L lines, T + 1 to 64."
+abbrev pub mostTrackers : ℕ
+mostTrackers = 8
+
+abbrev pub mostLines : ℕ
+mostLines = 64
 
 -- "Leaf k has its bit in map block k / 512, byte (k mod 512) / 8, bit k mod 8, bit 0 lowest."
 unfoldable pub mapBlockOf : ℕ → ℕ

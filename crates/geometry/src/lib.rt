@@ -10,6 +10,12 @@ impl Geometry {
     // The most leaves that a memory has; the fewest is one.
     pub const MOST_LEAVES: u64 = 262144;
 
+    // The most trackers that a cache has; the fewest is one.
+    pub const MOST_TRACKERS: usize = 8;
+
+    // The most lines that a cache has; the fewest is one more than its trackers.
+    pub const MOST_LINES: usize = 64;
+
     // The bytes of a block, leaf or map.
     pub const BLOCK_LEN: usize = 64;
 

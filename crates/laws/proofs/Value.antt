@@ -1,5 +1,5 @@
 -- Numbers as bytes, low first, of any width.
-use mathlib.Core.Path.{_≡_, refl, ap, sym, _∙_}
+use mathlib.Core.Path.{_≡_, refl, ap, _∙_}
 use mathlib.Core.List.{List, [], _∷_, append-assoc}
 use Prim.Native.Nat.{ℕ, zero, suc, _+_, _*_, _/_, _%_, _^_, _≤_, _<_}
 use native.Mathlib.Nat.{pow-succ'}
@@ -7,8 +7,7 @@ use native.Mathlib.Omega.{arith}
 use borrow.Author.Tests.{le-leb, lt-leb}
 use lib.ListN.{length, take, drop, getD, set}
 use lib.Seq.{drop-cons, sets, sets-eq}
-use Rattle.laws.specs.Bytes.{part, splice, fits, putW, value, bytes, numberAt, Bytes}
-use Rattle.laws.proofs.Put.{putW-fits}
+use Rattle.laws.specs.Bytes.{part, splice, fits, value, bytes, numberAt, Bytes}
 
 pub length-bytes : (w v : ℕ) → length (bytes w v) ≡ w
 unfolding bytes

@@ -6,16 +6,16 @@ use Rattle.tracker.specs.declared.Tracker.{Tracker}
 use Rattle.rules.specs.State.{Rows}
 use Rattle.lines.specs.Lines.{rows}
 use Rattle.turned.specs.declared.Turned as left
-use Rattle.turned.specs.Steps.{Steps}
+use Rattle.turned.specs.Steps.{turned}
 use Rattle.turned.proofs.One.{turned-one, rows-one}
 use Rattle.leaf.specs.Leaf.{probeOn, leafOn}
 
 pub probe-one : (l hand : ℕ) (t : Tracker) (lines bytes : List ℕ) (r s : left.Turned)
-    → ((m : List ℕ) → Steps (probeOn l hand t (rows lines bytes m)) (r .answer) (r .hand) (r .tracker) lines bytes m)
-    → ((m : List ℕ) → Steps (probeOn l hand t (rows lines bytes m)) (s .answer) (s .hand) (s .tracker) lines bytes m) → r ≡ s
-probe-one l hand t lines bytes r s p q = turned-one _ r s _ _ _ _ _ _ (p []) (q [])
+    → ((m : List ℕ) → turned r lines bytes m ≡ probeOn l hand t (rows lines bytes m))
+    → ((m : List ℕ) → turned s lines bytes m ≡ probeOn l hand t (rows lines bytes m)) → r ≡ s
+probe-one l hand t lines bytes r s p q = turned-one r s _ _ _ _ _ _ (p []) (q [])
 
 pub leaf-one : (l hand j bit : ℕ) (t : Tracker) (was : Rows) (r s : left.Turned) (ls bs m ls′ bs′ m′ : List ℕ)
-    → Steps (leafOn l hand j bit t was) (r .answer) (r .hand) (r .tracker) ls bs m
-    → Steps (leafOn l hand j bit t was) (s .answer) (s .hand) (s .tracker) ls′ bs′ m′ → (r ≡ s) × (rows ls bs m ≡ rows ls′ bs′ m′)
-leaf-one l hand j bit t was r s ls bs m ls′ bs′ m′ p q = (turned-one _ r s _ _ _ _ _ _ p q, rows-one _ r s _ _ _ _ _ _ p q)
+    → turned r ls bs m ≡ leafOn l hand j bit t was
+    → turned s ls′ bs′ m′ ≡ leafOn l hand j bit t was → (r ≡ s) × (rows ls bs m ≡ rows ls′ bs′ m′)
+leaf-one l hand j bit t was r s ls bs m ls′ bs′ m′ p q = (turned-one r s _ _ _ _ _ _ p q, rows-one r s _ _ _ _ _ _ p q)

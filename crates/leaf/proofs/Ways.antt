@@ -1,5 +1,5 @@
 -- A law for each way out of Probe and Leaf, from what the code has tested: the rule is then what one of its ends says.
-use mathlib.Core.Path.{_≡_, refl, sym, ap, _∙_}
+use mathlib.Core.Path.{_≡_, refl, sym, _∙_}
 use mathlib.Core.List.{List}
 use mathlib.Core.Bool.{Bool, true, false}
 use Prim.Native.Nat.{ℕ, _+_, _-_, _*_, _≤_, _<_}
@@ -19,10 +19,10 @@ use Rattle.tracker.specs.Answer.{read, done, same}
 use Rattle.line.specs.Word.{word}
 use Rattle.line.specs.Find.{lineOf}
 use Rattle.rules.specs.State.{Rows}
-use Rattle.rules.specs.Place.{lineBytes, rowsFit, Brought, filled, bringIn}
+use Rattle.rules.specs.Place.{lineBytes, rowsFit, filled, bringIn}
 use Rattle.rules.specs.Step.{ends, goes, refuses, turnsOf, groupIn, letGo, newLeaf, probe, leafRead, putIn, writeUnder1, writeUnder0}
-use Rattle.lines.specs.Lines.{rows, placed, Gives}
-use Rattle.lines.proofs.Ways.{given, placed-same, bringIn-same, fit-lines, fit-bytes}
+use Rattle.lines.specs.Lines.{rows, placed}
+use Rattle.lines.proofs.Ways.{left, line-is, hand-is, rows-are, memory-is, placed-same, bringIn-same, fit-lines, fit-bytes}
 use Rattle.leaf.specs.Leaf.{probeOn, leafOn}
 
 -- Probe
@@ -56,12 +56,12 @@ module _ (l hand : ℕ) (t : Tracker) (r : Rows) where
 
 -- Leaf: the leaf is brought in
 module _ (l hand j k : ℕ) (t : Tracker) (lines bytes memory : List ℕ) (ek : k ≡ leafOf (t .group))
-    (i next : ℕ) (ls bs m : List ℕ) (g : Gives (bringIn l hand k (rows lines bytes memory)) i next ls bs m) where
+    (i next : ℕ) (ls bs m : List ℕ) (g : left i next ls bs m ≡ bringIn l hand k (rows lines bytes memory)) where
   leaf-in : bringIn l hand (leafOf (t .group)) (rows lines bytes memory) ≡ (record { line = i; hand = next; rows = rows ls bs m })
-  leaf-in = rw (← ek) (given g)
+  leaf-in = rw (← ek) (sym g)
 
   leaf-none : l ≤ i → rows ls bs m ≡ rows lines bytes memory
-  leaf-none o = ap (λ (y : Brought). y .rows) (sym (given g)) ∙ bringIn-same l hand k lines bytes memory (omega (arith, g .line))
+  leaf-none o = rows-are g ∙ bringIn-same l hand k lines bytes memory (omega (arith, line-is g))
 
   pub leafRead-none : l ≤ i → leafRead l hand j t (rows lines bytes memory) ≡ refuses 4 t hand (rows ls bs m)
   unfolding leafRead
@@ -118,15 +118,15 @@ module _ (l hand j : ℕ) (t : Tracker) (lines bytes memory : List ℕ) where
     unfolding writeUnder0
     writeUnder0-lined h = rw (ne-eqb _ _ q, ← ek, ← e, lt-ltb _ _ h) refl
 
-    module _ (h : l ≤ i) (p next : ℕ) (m : List ℕ) (g : Gives (placed l hand (rows lines bytes memory)) p next lines bytes m) where
+    module _ (h : l ≤ i) (p next : ℕ) (m : List ℕ) (g : left p next lines bytes m ≡ placed l hand (rows lines bytes memory)) where
       pub writeUnder0-none : l ≤ p → writeUnder0 l hand j t (rows lines bytes memory) ≡ refuses 4 t hand (rows lines bytes m)
       unfolding writeUnder0
-      writeUnder0-none o = rw (ne-eqb _ _ q, ← ek, ← e, le-ltb _ _ h, ← g .line, le-ltb _ _ o, g .memory ∙ placed-same l hand lines bytes memory (omega (arith, g .line))) refl
+      writeUnder0-none o = rw (ne-eqb _ _ q, ← ek, ← e, le-ltb _ _ h, ← line-is g, le-ltb _ _ o, memory-is g ∙ placed-same l hand lines bytes memory (omega (arith, line-is g))) refl
 
       pub writeUnder0-placed : p < l
           → writeUnder0 l hand j t (rows lines bytes memory) ≡ goes t Set next (filled (rows lines bytes m) p (leafOf (t .group)) true (newLeaf t))
       unfolding writeUnder0
-      writeUnder0-placed o = rw (ne-eqb _ _ q, ← ek, ← e, le-ltb _ _ h, ← g .line, lt-ltb _ _ o, g .hand, g .memory) refl
+      writeUnder0-placed o = rw (ne-eqb _ _ q, ← ek, ← e, le-ltb _ _ h, ← line-is g, lt-ltb _ _ o, hand-is g, memory-is g) refl
 
 -- Leaf on rows that fit, or not
 pub past-rows : (l j : ℕ) (lines bytes : List ℕ) → l ≤ j → false ≡ both (ltb j l) (rowsFit l lines bytes)

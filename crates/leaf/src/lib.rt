@@ -16,7 +16,7 @@ ghost use Rattle.tracker.specs.declared.Phase.the-variants.{Set};
 ghost use Rattle.rules.specs.Place.{rowsFit, filled};
 ghost use Rattle.rules.specs.Step.{goes, groupIn, letGo, newLeaf, leafRead, putIn, writeUnder1, writeUnder0};
 ghost use Rattle.lines.specs.Lines.{rows};
-ghost use Rattle.turned.specs.Steps.{Steps, OnAnyMemory};
+ghost use Rattle.turned.specs.Steps.{turned, OnAnyMemory};
 ghost use Rattle.leaf.specs.Leaf.{probeOn, leafOn};
 
 // Group g in line i.
@@ -37,7 +37,7 @@ fn let_go(lines: &mut [u32], i: usize)
 
 // Probe. Leaf in a line: a read ends with the group; a write whose group equals v ends "same". Otherwise on to Map.
 pub fn probe(l: usize, hand: usize, t: Tracker, lines: &[u32], bytes: &[u8]) -> Turned
-    ensures { λ r. ⌜ OnAnyMemory (λ q. probeOn l hand t q) (r .answer) (r .hand) (r .tracker) (now (lines .entry)) (now (bytes .entry)) (now (lines .entry)) (now (bytes .entry)) ⌝ }
+    ensures { λ r. ⌜ OnAnyMemory (λ q. probeOn l hand t q) r (now (lines .entry)) (now (bytes .entry)) (now (lines .entry)) (now (bytes .entry)) ⌝ }
 {
     if !lines::rows_fit(l, lines, bytes) {
         return turned::refuses(4, hand, t);
@@ -68,7 +68,7 @@ fn leaf_read(
     memory: &mut [u8],
 ) -> Turned
     requires { ⌜ (j < l) × (l ≤ length (now lines)) × (length (now bytes) ≡ 64 * l) ⌝ }
-    ensures { λ r. ⌜ Steps (leafRead l hand j t (rows (now (lines .entry)) (now (bytes .entry)) (now (memory .entry)))) (r .answer) (r .hand) (r .tracker) (now (lines .exit)) (now (bytes .exit)) (now (memory .exit)) ⌝ }
+    ensures { λ r. ⌜ turned r (now (lines .exit)) (now (bytes .exit)) (now (memory .exit)) ≡ leafRead l hand j t (rows (now (lines .entry)) (now (bytes .entry)) (now (memory .entry))) ⌝ }
 {
     let g = t.group;
     let spot = lines::bring_in(l, hand, Geometry::leaf_of(g), lines, bytes, memory);
@@ -91,7 +91,7 @@ fn put_in(
     bytes: &mut [u8],
 ) -> Turned
     requires { ⌜ (j < length (now lines)) × (i < length (now lines)) × (64 * i + 64 ≤ length (now bytes)) ⌝ }
-    ensures { λ r. ⌜ ((m : List ℕ) → Steps (putIn j t (record { line = i; hand = hand; rows = rows (now (lines .entry)) (now (bytes .entry)) m })) (r .answer) (r .hand) (r .tracker) (now (lines .exit)) (now (bytes .exit)) m) ⌝ }
+    ensures { λ r. ⌜ ((m : List ℕ) → turned r (now (lines .exit)) (now (bytes .exit)) m ≡ putIn j t (record { line = i; hand = hand; rows = rows (now (lines .entry)) (now (bytes .entry)) m })) ⌝ }
 {
     let g = t.group;
     let at = Geometry::BLOCK_LEN * i;
@@ -116,7 +116,7 @@ fn write_under_1(
     memory: &mut [u8],
 ) -> Turned
     requires { ⌜ (j < l) × (l ≤ length (now lines)) × (length (now bytes) ≡ 64 * l) ⌝ }
-    ensures { λ r. ⌜ Steps (writeUnder1 l hand j t (rows (now (lines .entry)) (now (bytes .entry)) (now (memory .entry)))) (r .answer) (r .hand) (r .tracker) (now (lines .exit)) (now (bytes .exit)) (now (memory .exit)) ⌝ }
+    ensures { λ r. ⌜ turned r (now (lines .exit)) (now (bytes .exit)) (now (memory .exit)) ≡ writeUnder1 l hand j t (rows (now (lines .entry)) (now (bytes .entry)) (now (memory .entry))) ⌝ }
 {
     let g = t.group;
     let spot = lines::bring_in(l, hand, Geometry::leaf_of(g), lines, bytes, memory);
@@ -143,7 +143,7 @@ fn new_leaf(t: Tracker) -> [u8; Geometry::BLOCK_LEN]
 // The new leaf goes into line i, changed; on to Finish (set).
 fn create(i: usize, hand: usize, t: Tracker, lines: &mut [u32], bytes: &mut [u8]) -> Turned
     requires { ⌜ (i < length (now lines)) × (64 * i + 64 ≤ length (now bytes)) ⌝ }
-    ensures { λ r. ⌜ ((m : List ℕ) → Steps (goes t Set hand (filled (rows (now (lines .entry)) (now (bytes .entry)) m) i (leafOf (t .group)) true (newLeaf t))) (r .answer) (r .hand) (r .tracker) (now (lines .exit)) (now (bytes .exit)) m) ⌝ }
+    ensures { λ r. ⌜ ((m : List ℕ) → turned r (now (lines .exit)) (now (bytes .exit)) m ≡ goes t Set hand (filled (rows (now (lines .entry)) (now (bytes .entry)) m) i (leafOf (t .group)) true (newLeaf t))) ⌝ }
 {
     let leaf = new_leaf(t);
     lines[i] = line::word(Geometry::leaf_of(t.group), true, 0);
@@ -162,7 +162,7 @@ fn write_under_0(
     memory: &mut [u8],
 ) -> Turned
     requires { ⌜ (j < l) × (l ≤ length (now lines)) × (length (now bytes) ≡ 64 * l) ⌝ }
-    ensures { λ r. ⌜ Steps (writeUnder0 l hand j t (rows (now (lines .entry)) (now (bytes .entry)) (now (memory .entry)))) (r .answer) (r .hand) (r .tracker) (now (lines .exit)) (now (bytes .exit)) (now (memory .exit)) ⌝ }
+    ensures { λ r. ⌜ turned r (now (lines .exit)) (now (bytes .exit)) (now (memory .exit)) ≡ writeUnder0 l hand j t (rows (now (lines .entry)) (now (bytes .entry)) (now (memory .entry))) ⌝ }
 {
     if t.value == 0 {
         let_go(lines, j);
@@ -201,7 +201,7 @@ pub fn leaf(
     bytes: &mut [u8],
     memory: &mut [u8],
 ) -> Turned
-    ensures { λ r. ⌜ Steps (leafOn l hand j bit t (rows (now (lines .entry)) (now (bytes .entry)) (now (memory .entry)))) (r .answer) (r .hand) (r .tracker) (now (lines .exit)) (now (bytes .exit)) (now (memory .exit)) ⌝ }
+    ensures { λ r. ⌜ turned r (now (lines .exit)) (now (bytes .exit)) (now (memory .exit)) ≡ leafOn l hand j bit t (rows (now (lines .entry)) (now (bytes .entry)) (now (memory .entry))) ⌝ }
 {
     if !in_rows(l, j, lines, bytes) {
         return turned::refuses(4, hand, t);

@@ -21,6 +21,10 @@ changed w = eqb ((w - 1) % 2) 1
 unfoldable pub holder : ℕ → ℕ
 holder w = (w - 1) / 2 % 128
 
+-- the trackers that a line can name: its holder's number plus one has seven bits
+abbrev pub holders : ℕ
+holders = 127
+
 unfoldable pub held : ℕ → Bool
 held w = ltb 0 (holder w)
 

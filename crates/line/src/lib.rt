@@ -5,6 +5,9 @@ ghost use Prim.Native.Nat.{min};
 ghost use Rattle.line.specs.Word.{used, blockOf, changed, holder, held, has, word, heldBy, cleaned};
 ghost use Rattle.line.specs.Find.{lineOf, lowestFree, looseFrom, victim, after};
 
+// The trackers that a line can name.
+pub const HOLDERS: u32 = 127;
+
 // The line holds a block.
 pub fn used(w: u32) -> bool
     ensures { λ r. ⌜ r ≡ used w ⌝ }

@@ -1,5 +1,5 @@
 -- Two results that a promise allows for one input are equal: both are the rule's.
-use mathlib.Core.Path.{_≡_, refl, sym, _∙_}
+use mathlib.Core.Path.{_≡_, sym, ap, _∙_}
 use mathlib.Core.List.{List}
 use mathlib.Core.Bool.{Bool}
 use Prim.Native.Nat.{ℕ, _*_}
@@ -7,7 +7,9 @@ use lib.Dec.{eqb}
 use lib.ListN.{length}
 use Rattle.rules.specs.State.{Rows}
 use Rattle.rules.specs.Place.{rowsFit, Brought}
-use Rattle.lines.specs.Lines.{rows, Gives, Drains}
+use Rattle.lines.specs.declared.Spot.{Spot}
+use Rattle.lines.specs.Lines.{rows, brought}
+use Rattle.lines.proofs.Ways.{rows-are}
 
 pub bytes-fit-one : (l : ℕ) (bytes : List ℕ) {a b : Bool} → a ≡ eqb (length bytes) (64 * l) → b ≡ eqb (length bytes) (64 * l) → a ≡ b
 bytes-fit-one l bytes p q = p ∙ sym q
@@ -16,12 +18,13 @@ pub rows-fit-one : (l : ℕ) (lines bytes : List ℕ) {a b : Bool} → a ≡ row
 rows-fit-one l lines bytes p q = p ∙ sym q
 
 -- what `place`, `fetch` and `bring_in` leave: the line, the hand and the rows
-abbrev pub left : ℕ → ℕ → List ℕ → List ℕ → List ℕ → Brought
-left i h ls bs m = record { line = i; hand = h; rows = rows ls bs m }
+pub brought-one : {d : Brought} (a b : Spot) (ls bs m ls′ bs′ m′ : List ℕ) → brought a ls bs m ≡ d → brought b ls′ bs′ m′ ≡ d → (a ≡ b) × (rows ls bs m ≡ rows ls′ bs′ m′)
+brought-one a b ls bs m ls′ bs′ m′ p q =
+    let e : brought a ls bs m ≡ brought b ls′ bs′ m′ = p ∙ sym q in
+    (ap (λ (y : Brought). spot (y .line) (y .hand)) e, rows-are e)
+  where
+    spot : ℕ → ℕ → Spot
+    spot line hand = record { line = line; hand = hand }
 
-pub gives-one : (b : Brought) (i h j k : ℕ) (ls bs m ls′ bs′ m′ : List ℕ) → Gives b i h ls bs m → Gives b j k ls′ bs′ m′ → left i h ls bs m ≡ left j k ls′ bs′ m′
-gives-one b i h j k ls bs m ls′ bs′ m′ p q =
-    rw (p .line, p .hand, p .lines, p .bytes, p .memory, q .line, q .hand, q .lines, q .bytes, q .memory) refl
-
-pub drains-one : (r : Rows) (ls m ls′ m′ : List ℕ) → Drains r ls m → Drains r ls′ m′ → (ls ≡ ls′) × (m ≡ m′)
-drains-one r ls m ls′ m′ p q = (p .lines ∙ sym (q .lines), p .memory ∙ sym (q .memory))
+pub drain-one : {d : Rows} (a b : Rows) → a ≡ d → b ≡ d → a ≡ b
+drain-one a b p q = p ∙ sym q

@@ -1,5 +1,5 @@
 -- A law for each way out of placing, bringing in and draining, from what the code has tested.
-use mathlib.Core.Path.{_≡_, refl, sym, _∙_}
+use mathlib.Core.Path.{_≡_, refl, sym, ap, _∙_}
 use mathlib.Core.List.{List}
 use mathlib.Core.Bool.{Bool, true, false}
 use mathlib.Core.Logic.{⊎-elim}
@@ -21,7 +21,7 @@ use Rattle.line.proofs.Words.{changed-none}
 use Rattle.line.proofs.Find.{lowestFree-free}
 use Rattle.rules.specs.State.{Rows}
 use Rattle.rules.specs.Place.{rowsFit, placeLine, placeHand, writtenBack, placeMemory, Brought, bringIn, drained}
-use Rattle.lines.specs.Lines.{rows, placed, fetched, drainedRows, Gives, Drains}
+use Rattle.lines.specs.Lines.{rows, placed, fetched, drainedRows}
 
 -- the rows fit: what that says
 pub fit-lines : (l : ℕ) (lines bytes : List ℕ) → rowsFit l lines bytes ≡ true → l ≤ length lines
@@ -53,13 +53,23 @@ pub lines-enough : (l : ℕ) (lines bytes : List ℕ) {f : Bool} → l ≤ lengt
 unfolding rowsFit both
 lines-enough l lines bytes h e = rw (le-leb _ _ h) e
 
--- a rule whose value is known is given
-pub gives : {b : Brought} (i h : ℕ) (ls bs m : List ℕ) → b ≡ (record { line = i; hand = h; rows = rows ls bs m }) → Gives b i h ls bs m
-gives i h ls bs m e = rw e (record { line = refl; hand = refl; lines = refl; bytes = refl; memory = refl })
+-- a line, a hand and rows, as a function leaves them
+abbrev pub left : (line hand : ℕ) (lines bytes memory : List ℕ) → Brought
+left line hand lines bytes memory = record { line = line; hand = hand; rows = rows lines bytes memory }
 
--- what is given is the rule's value
-pub given : {b : Brought} {i h : ℕ} {ls bs m : List ℕ} → Gives b i h ls bs m → b ≡ (record { line = i; hand = h; rows = rows ls bs m })
-given g = rw (g .line, g .hand, g .lines, g .bytes, g .memory) refl
+-- what an equation of two such says of each part
+module _ {b c : Brought} (e : b ≡ c) where
+  pub line-is : b .line ≡ c .line
+  line-is = ap (λ (y : Brought). y .line) e
+
+  pub hand-is : b .hand ≡ c .hand
+  hand-is = ap (λ (y : Brought). y .hand) e
+
+  pub rows-are : b .rows ≡ c .rows
+  rows-are = ap (λ (y : Brought). y .rows) e
+
+  pub memory-is : b .rows .memory ≡ c .rows .memory
+  memory-is = ap (λ (y : Brought). y .rows .memory) e
 
 -- writing line i back: a clean one, and a changed one straight from its bytes
 module _ (lines bytes memory : List ℕ) (i : ℕ) where
@@ -91,32 +101,30 @@ module _ (l hand : ℕ) (lines bytes : List ℕ) where
 
 -- placing, way by way
 module _ (l hand : ℕ) (lines bytes memory : List ℕ) where
-  pub placed-misfit : rowsFit l lines bytes ≡ false → Gives (placed l hand (rows lines bytes memory)) l hand lines bytes memory
+  pub placed-misfit : rowsFit l lines bytes ≡ false → left l hand lines bytes memory ≡ placed l hand (rows lines bytes memory)
   unfolding placeLine placeHand placeMemory both
-  placed-misfit e = gives l hand lines bytes memory (rw (e, le-ltb l l (omega arith)) refl)
+  placed-misfit e = sym (rw (e, le-ltb l l (omega arith)) refl)
 
-  pub placed-free : (i : ℕ) → rowsFit l lines bytes ≡ true → i ≡ lowestFree lines l → i < l → Gives (placed l hand (rows lines bytes memory)) i hand lines bytes memory
+  pub placed-free : (i : ℕ) → rowsFit l lines bytes ≡ true → i ≡ lowestFree lines l → i < l → left i hand lines bytes memory ≡ placed l hand (rows lines bytes memory)
   unfolding placeLine placeHand placeMemory both
   placed-free i f e h =
       let h' : lowestFree lines l < l = omega arith in
-      rw e (gives (lowestFree lines l) hand lines bytes memory
-      (rw (f, lt-ltb _ _ h', lt-leb _ _ h', lt-ltb _ _ h', ← written-not lines bytes memory _ (changed-none _ (lowestFree-free lines l h'))) refl))
+      rw e (sym (rw (f, lt-ltb _ _ h', lt-leb _ _ h', lt-ltb _ _ h', ← written-not lines bytes memory _ (changed-none _ (lowestFree-free lines l h'))) refl))
 
   -- none is free, and every line is held
   pub placed-none : (i : ℕ) → rowsFit l lines bytes ≡ true → l ≤ lowestFree lines l → i ≡ victim lines l hand → l ≤ i
-      → Gives (placed l hand (rows lines bytes memory)) i hand lines bytes memory
+      → left i hand lines bytes memory ≡ placed l hand (rows lines bytes memory)
   unfolding placeLine placeHand placeMemory both
   placed-none i f o e h =
       let h' : l ≤ victim lines l hand = omega arith in
-      rw e (gives (victim lines l hand) hand lines bytes memory (rw (f, le-ltb _ _ o, le-leb _ _ o, le-ltb _ _ h') refl))
+      rw e (sym (rw (f, le-ltb _ _ o, le-leb _ _ o, le-ltb _ _ h') refl))
 
   pub placed-victim : (i next : ℕ) (m : List ℕ) → rowsFit l lines bytes ≡ true → l ≤ lowestFree lines l → i ≡ victim lines l hand → i < l
-      → next ≡ after l i → m ≡ writtenBack lines bytes memory i → Gives (placed l hand (rows lines bytes memory)) i next lines bytes m
+      → next ≡ after l i → m ≡ writtenBack lines bytes memory i → left i next lines bytes m ≡ placed l hand (rows lines bytes memory)
   unfolding placeLine placeHand placeMemory both
   placed-victim i next m f o e h a w =
       let h' : victim lines l hand < l = omega arith in
-      rw (w, a, e) (gives (victim lines l hand) (after l (victim lines l hand)) lines bytes (writtenBack lines bytes memory (victim lines l hand))
-      (rw (f, le-ltb _ _ o, le-leb _ _ o, lt-ltb _ _ h') refl))
+      rw (w, a, e) (sym (rw (f, le-ltb _ _ o, le-leb _ _ o, lt-ltb _ _ h') refl))
 
   -- memory changes only where a line is taken
   pub placed-same : l ≤ placeLine l hand lines bytes → placeMemory l hand (rows lines bytes memory) ≡ memory
@@ -125,27 +133,26 @@ module _ (l hand : ℕ) (lines bytes memory : List ℕ) where
 
   -- bringing in a block that no line has
   module _ (b : ℕ) where
-    pub fetched-none : (p next : ℕ) (m : List ℕ) → Gives (placed l hand (rows lines bytes memory)) p next lines bytes m → l ≤ p
-        → Gives (fetched l hand b (rows lines bytes memory)) l hand lines bytes m
+    pub fetched-none : (p next : ℕ) (m : List ℕ) → left p next lines bytes m ≡ placed l hand (rows lines bytes memory) → l ≤ p
+        → left l hand lines bytes m ≡ fetched l hand b (rows lines bytes memory)
     unfolding fetched
     fetched-none p next m g h =
-        let o : l ≤ placeLine l hand lines bytes = omega (arith, g .line) in
-        rw (g .memory ∙ placed-same o) (gives l hand lines bytes memory (rw (le-ltb _ _ o) refl))
+        let o : l ≤ placeLine l hand lines bytes = omega (arith, line-is g) in
+        rw (memory-is g ∙ placed-same o) (sym (rw (le-ltb _ _ o) refl))
 
-    pub fetched-is : (p next w at : ℕ) (bs m y : List ℕ) → Gives (placed l hand (rows lines bytes memory)) p next lines bytes m → p < l
+    pub fetched-is : (p next w at : ℕ) (bs m y : List ℕ) → left p next lines bytes m ≡ placed l hand (rows lines bytes memory) → p < l
         → w ≡ word b false 0 → at ≡ blockPlace b → y ≡ blockOr0 m at → bs ≡ putW 64 bytes (blockPlace p) y
-        → Gives (fetched l hand b (rows lines bytes memory)) p next (set lines p w) bs m
+        → left p next (set lines p w) bs m ≡ fetched l hand b (rows lines bytes memory)
     unfolding fetched
     fetched-is p next w at bs m y g h ew ea ey eb =
-        let o : placeLine l hand lines bytes < l = omega (arith, g .line) in
-        rw (eb, ey, ea, ew, g .line, g .hand, g .memory)
-        (rw (lt-ltb _ _ o) (record { line = refl; hand = refl; lines = refl; bytes = refl; memory = refl }))
+        let o : placeLine l hand lines bytes < l = omega (arith, line-is g) in
+        rw (eb, ey, ea, ew, line-is g, hand-is g, memory-is g) (sym (rw (lt-ltb _ _ o) refl))
 
-    pub bringIn-found : (i : ℕ) → i ≡ lineOf lines l b → i < l → Gives (bringIn l hand b (rows lines bytes memory)) i hand lines bytes memory
+    pub bringIn-found : (i : ℕ) → i ≡ lineOf lines l b → i < l → left i hand lines bytes memory ≡ bringIn l hand b (rows lines bytes memory)
     unfolding bringIn
     bringIn-found i e h =
         let o : lineOf lines l b < l = omega arith in
-        rw e (gives (lineOf lines l b) hand lines bytes memory (rw (lt-ltb _ _ o) refl))
+        rw e (sym (rw (lt-ltb _ _ o) refl))
 
     pub bringIn-fetched : l ≤ lineOf lines l b → bringIn l hand b (rows lines bytes memory) ≡ fetched l hand b (rows lines bytes memory)
     unfolding bringIn fetched
@@ -198,16 +205,19 @@ draining-more {l} {i} {r} {lines} {memory} {m} w d h ew em k = record {
 }
 
 -- all l lines of the rows r are drained
-pub draining-all : (l i : ℕ) (r : Rows) (ls m : List ℕ) → Draining l i r ls m → l ≤ i → Drains (drained l r) ls m
+pub draining-all : (l i : ℕ) (r : Rows) (ls m : List ℕ) → Draining l i r ls m → l ≤ i → rows ls (r .bytes) m ≡ drained l r
 draining-all l i r ls m d h =
     let e : i ≡ l = omega arith in
-    rw (← e) (record { lines = d .now-lines; memory = d .now-memory })
+    rw (← e) (by-rows (drained i r) (d .now-lines) (sym (d .same-bytes)) (d .now-memory))
+  where
+    by-rows : {lines bytes memory : List ℕ} (a : Rows) → lines ≡ a .lines → bytes ≡ a .bytes → memory ≡ a .memory → rows lines bytes memory ≡ a
+    by-rows a p q s = rw (p, q, s) refl
 
 module _ (l : ℕ) (lines bytes memory : List ℕ) where
   pub drainedRows-fit : rowsFit l lines bytes ≡ true → drainedRows l (rows lines bytes memory) ≡ drained l (rows lines bytes memory)
   unfolding drainedRows
   drainedRows-fit e = rw e
 
-  pub drainedRows-misfit : rowsFit l lines bytes ≡ false → Drains (drainedRows l (rows lines bytes memory)) lines memory
+  pub drainedRows-misfit : rowsFit l lines bytes ≡ false → rows lines bytes memory ≡ drainedRows l (rows lines bytes memory)
   unfolding drainedRows
-  drainedRows-misfit e = rw e (record { lines = refl; memory = refl })
+  drainedRows-misfit e = rw e refl

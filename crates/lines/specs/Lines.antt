@@ -1,5 +1,4 @@
 -- What placing, bringing in and draining promise of rows that are lent: 01 "The cache".
-use mathlib.Core.Path.{_≡_}
 use mathlib.Core.List.{List}
 use mathlib.Core.Bool.{false}
 use Prim.Native.Nat.{ℕ}
@@ -9,6 +8,7 @@ use Rattle.geometry.specs.TagMemory.{blockPlace}
 use Rattle.block.specs.Block.{blockOr0}
 use Rattle.rules.specs.State.{Rows}
 use Rattle.rules.specs.Place.{rowsFit, placeLine, placeHand, placeMemory, Brought, filled, withMemory, drained}
+use Rattle.lines.specs.declared.Spot.{Spot}
 
 -- the rows, as they are lent
 abbrev pub rows : List ℕ → List ℕ → List ℕ → Rows
@@ -31,15 +31,6 @@ fetched l hand b r =
 unfoldable pub drainedRows : ℕ → Rows → Rows
 drainedRows l r = pick (rowsFit l (r .lines) (r .bytes)) (drained l r) r
 
--- the line, the hand and the rows that a function leaves are those of the rule
-pub record Gives (b : Brought) (i h : ℕ) (ls bs m : List ℕ) : Type 0 where
-  pub line : i ≡ b .line
-  pub hand : h ≡ b .hand
-  pub lines : ls ≡ b .rows .lines
-  pub bytes : bs ≡ b .rows .bytes
-  pub memory : m ≡ b .rows .memory
-
--- the lines and the memory that draining leaves; the line bytes are only read
-pub record Drains (r : Rows) (ls m : List ℕ) : Type 0 where
-  pub lines : ls ≡ r .lines
-  pub memory : m ≡ r .memory
+-- what a function leaves: the line, the hand and the rows
+abbrev pub brought : Spot → List ℕ → List ℕ → List ℕ → Brought
+brought r lines bytes memory = record { line = r .line; hand = r .hand; rows = rows lines bytes memory }

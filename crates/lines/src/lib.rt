@@ -6,7 +6,7 @@ ghost use Prim.Native.Nat.{_+_, _*_, _≤_, _<_};
 ghost use lib.Dec.{eqb};
 ghost use lib.ListN.{length};
 ghost use Rattle.rules.specs.Place.{rowsFit, writtenBack, bringIn, drained};
-ghost use Rattle.lines.specs.Lines.{rows, placed, fetched, drainedRows, Gives, Drains};
+ghost use Rattle.lines.specs.Lines.{rows, placed, fetched, drainedRows, brought};
 
 // A line, L for none, and the hand.
 pub struct Spot {
@@ -49,7 +49,7 @@ fn write_back(i: usize, lines: &[u32], bytes: &[u8], memory: &mut [u8])
 
 // Placing a block: the line to take, written back if it was changed, and the hand.
 pub fn place(l: usize, hand: usize, lines: &[u32], bytes: &[u8], memory: &mut [u8]) -> Spot
-    ensures { λ r. ⌜ Gives (placed l hand (rows (now (lines .entry)) (now (bytes .entry)) (now (memory .entry)))) (r .line) (r .hand) (now (lines .entry)) (now (bytes .entry)) (now (memory .exit)) ⌝ }
+    ensures { λ r. ⌜ brought r (now (lines .entry)) (now (bytes .entry)) (now (memory .exit)) ≡ placed l hand (rows (now (lines .entry)) (now (bytes .entry)) (now (memory .entry))) ⌝ }
 {
     if !rows_fit(l, lines, bytes) {
         return Spot { line: l, hand };
@@ -78,7 +78,7 @@ pub fn fetch(
     bytes: &mut [u8],
     memory: &mut [u8],
 ) -> Spot
-    ensures { λ r. ⌜ Gives (fetched l hand b (rows (now (lines .entry)) (now (bytes .entry)) (now (memory .entry)))) (r .line) (r .hand) (now (lines .exit)) (now (bytes .exit)) (now (memory .exit)) ⌝ }
+    ensures { λ r. ⌜ brought r (now (lines .exit)) (now (bytes .exit)) (now (memory .exit)) ≡ fetched l hand b (rows (now (lines .entry)) (now (bytes .entry)) (now (memory .entry))) ⌝ }
 {
     let spot = place(l, hand, lines, bytes, memory);
     let p = spot.line;
@@ -100,7 +100,7 @@ pub fn bring_in(
     bytes: &mut [u8],
     memory: &mut [u8],
 ) -> Spot
-    ensures { λ r. ⌜ Gives (bringIn l hand b (rows (now (lines .entry)) (now (bytes .entry)) (now (memory .entry)))) (r .line) (r .hand) (now (lines .exit)) (now (bytes .exit)) (now (memory .exit)) ⌝ }
+    ensures { λ r. ⌜ brought r (now (lines .exit)) (now (bytes .exit)) (now (memory .exit)) ≡ bringIn l hand b (rows (now (lines .entry)) (now (bytes .entry)) (now (memory .entry))) ⌝ }
 {
     let i = line::line_of(lines, l, b);
     if i < l {
@@ -112,7 +112,7 @@ pub fn bring_in(
 // Changed lines to memory, lowest line first, and marked clean, in rows that are of L lines.
 fn drain_all(l: usize, lines: &mut [u32], bytes: &[u8], memory: &mut [u8])
     requires { ⌜ (l ≤ length (now lines)) × (length (now bytes) ≡ 64 * l) ⌝ }
-    ensures { λ _. ⌜ Drains (drained l (rows (now (lines .entry)) (now (bytes .entry)) (now (memory .entry)))) (now (lines .exit)) (now (memory .exit)) ⌝ }
+    ensures { λ _. ⌜ rows (now (lines .exit)) (now (bytes .entry)) (now (memory .exit)) ≡ drained l (rows (now (lines .entry)) (now (bytes .entry)) (now (memory .entry))) ⌝ }
 {
     let mut i = 0;
     while i < l {
@@ -124,7 +124,7 @@ fn drain_all(l: usize, lines: &mut [u32], bytes: &[u8], memory: &mut [u8])
 
 // Changed lines to memory, lowest line first, and marked clean; the lines stay.
 pub fn drain(l: usize, lines: &mut [u32], bytes: &[u8], memory: &mut [u8])
-    ensures { λ _. ⌜ Drains (drainedRows l (rows (now (lines .entry)) (now (bytes .entry)) (now (memory .entry)))) (now (lines .exit)) (now (memory .exit)) ⌝ }
+    ensures { λ _. ⌜ rows (now (lines .exit)) (now (bytes .entry)) (now (memory .exit)) ≡ drainedRows l (rows (now (lines .entry)) (now (bytes .entry)) (now (memory .entry))) ⌝ }
 {
     if !rows_fit(l, lines, bytes) {
         return;

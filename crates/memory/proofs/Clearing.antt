@@ -8,9 +8,8 @@ use native.Mathlib.Omega.{arith}
 use borrow.Rule.Slice.PartMut.{putMid}
 use lib.ListN.{length, take, drop, getD, replicate, length-append, length-take, length-replicate, getD-replicate, List·getD-append, List·getD-eq-default}
 use lib.Seq.{take-all, getD-take, getD-append-add, length-take-le, ext-getD}
-use Rattle.geometry.specs.TagMemory.{groups}
+use Rattle.geometry.specs.TagMemory.{groups, tagOf, inLimits, memoryLength, blockPlace, mapPlace, mapBitOf, leafOf}
 use Rattle.laws.proofs.Splice.{lt-or-ge, getD-part}
-use Rattle.geometry.specs.TagMemory.{tagOf, inLimits, memoryLength, blockPlace, mapPlace, mapBitOf, leafOf}
 use Rattle.geometry.proofs.Tags.{tagOf-0}
 use Rattle.geometry.proofs.Places.{bit-after-leaves}
 use Rattle.block.proofs.BitsOf.{bitAt-zero}

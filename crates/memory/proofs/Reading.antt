@@ -5,8 +5,7 @@ use mathlib.Core.Bool.{true, false}
 use Prim.Native.Nat.{ℕ, _*_, _≤_, _<_}
 use lib.ListN.{length}
 use borrow.Author.Tests.{eq-eqb, ne-eqb, lt-ltb, le-ltb}
-use Rattle.geometry.specs.TagMemory.{groups}
-use Rattle.geometry.specs.TagMemory.{inLimits, memoryLength, leafOf, groupPlace}
+use Rattle.geometry.specs.TagMemory.{groups, inLimits, memoryLength, leafOf, groupPlace}
 use Rattle.block.specs.Block.{groupAt}
 use Rattle.memory.specs.PlainReading.{leafBit, plainGroup, plainReading}
 

@@ -8,14 +8,13 @@ use native.Mathlib.Omega.{arith}
 use lib.Dec.{eqb}
 use lib.ListN.{length, getD, List·getD-eq-default}
 use borrow.Author.Tests.{eq-eqb, ne-eqb, eqb-true, eqb-false, lt-ltb, le-ltb, not-true}
-use Rattle.geometry.proofs.Places.{mapPlace-is}
+use Rattle.geometry.proofs.Places.{mapPlace-is, leaf-has-bit}
 use Rattle.laws.specs.Choice.{both, implies, no}
 use Rattle.laws.specs.Scan.{all}
 use Rattle.laws.proofs.Choice.{not-both-ways, true-or-false}
 use Rattle.laws.proofs.Scan.{all-at, all-is, all-fails}
 use Rattle.laws.proofs.Splice.{lt-or-ge, getD-part}
 use Rattle.geometry.specs.TagMemory.{mapBlocks, mapPlace, mapBitOf}
-use Rattle.geometry.proofs.Places.{leaf-has-bit}
 use Rattle.block.specs.Block.{bitAt, allZero}
 use Rattle.block.proofs.BitsOf.{bitAt-lt, bitAt-zero}
 use Rattle.block.proofs.Zero.{all-some, allZero-some, allZero-not}

@@ -1,11 +1,10 @@
 -- 01 "The tag memory": plain reading and its refusals.
 use mathlib.Core.List.{List}
-use Prim.Native.Nat.{ℕ, _+_, _*_}
+use Prim.Native.Nat.{ℕ, _+_}
 use lib.ListN.{length}
 use lib.Dec.{eqb, ltb}
-use Rattle.geometry.specs.TagMemory.{groups}
+use Rattle.geometry.specs.TagMemory.{groups, leafOf, inLimits, memoryLength, mapBitOf, groupPlace, mapPlace}
 use Rattle.laws.specs.Choice.{pick}
-use Rattle.geometry.specs.TagMemory.{leafOf, inLimits, memoryLength, mapBitOf, groupPlace, mapPlace}
 use Rattle.block.specs.Block.{groupAt, bitAt}
 
 -- leaf k's bit in a memory of n leaves

@@ -4,6 +4,7 @@ use mathlib.Core.Bool.{true}
 use mathlib.Core.List.{List}
 use mathlib.Core.Logic.{_⊎_, inl, inr, ⊎-elim}
 use Prim.Native.Nat.{ℕ, _≤_, _<_}
+use native.Mathlib.Omega.{arith}
 use lib.Dec.{ltb}
 use lib.Seq.{set-getD}
 use borrow.Author.Tests.{lt-ltb, le-ltb}
@@ -14,7 +15,6 @@ use Rattle.laws.proofs.Choice.{true-or-false}
 use Rattle.laws.proofs.Splice.{lt-or-ge}
 use Rattle.tracker.specs.declared.Access.{Access}
 use Rattle.tracker.specs.Tracker.{readOf, writeOf, issued}
-use Rattle.tracker.specs.Answer.{ok}
 use Rattle.script.specs.Script.{Asks, news, reads, writes, steps, drains, bad}
 use Rattle.rules.specs.State.{State, Rows, trackerAt, lengthsRight}
 use Rattle.rules.specs.Whole.{whole}
@@ -22,10 +22,10 @@ use Rattle.rules.specs.Place.{drained}
 use Rattle.rules.specs.Step.{Turned, refuses, turnOf}
 use Rattle.rules.specs.Calls.{refused, issueTests, issue, stepTests, step, drain, stepped, allIdle}
 use Rattle.rules.specs.Run.{does}
-use Rattle.rules.proofs.Calls.{Sound, rows-fit, refused-sound, step-is, step-refused, step-free, step-kept, issue-refused, issue-accepted, issue-free, issue-kept, drain-is, drain-busy, drain-kept}
+use Rattle.rules.proofs.Calls.{Sound, rows-fit, refused-sound, step-is, step-refused, step-free, step-kept, issue-refused, issue-accepted, issue-free, issue-kept, drains as drains-all, drain-is, drain-busy, drain-kept}
 use Rattle.lines.specs.Lines.{rows, drainedRows}
 use Rattle.play.specs.Play.{follows}
-use Rattle.play.specs.Turn.{named, issueTurn, stepTurn, drainTurn, lineTurn}
+use Rattle.play.specs.Turn.{named, accepts, issueTurn, stepTurn, drainTurn, lineTurn}
 
 below-lt : (t x : ℕ) → 0 < t → pick (ltb x t) x 0 < t
 below-lt t x h = by (lt-or-ge x t)
@@ -79,12 +79,12 @@ module _ (s : State) (bytes memory : List ℕ) (w : whole s ≡ true) (len : len
   issue-turn x access = ⊎-elim
       (λ e. let h = issue-free s bytes memory w len x access e in
       issue-accepted s bytes memory w len x access e
-      ∙ rw (own-is x (h .0), unless-0 (record { said = ok; hand = s .hand; tracker = issued access; rows = lent }) (λ i. refuses i (trackerAt (s .trackers) x) (s .hand) lent) e) refl)
+      ∙ rw (own-is x (h .0), unless-0 (accepts (s .hand) (issued access) lent) (λ i. refuses i (trackerAt (s .trackers) x) (s .hand) lent) e) refl)
       (λ h. issue-refused s bytes memory w len x access h ∙ refused-turn (own x) _ _ h) (refused-or-not (refusal (issueTests (s .n) (s .t) x access (s .trackers))))
 
   drain-turn : drain s bytes memory ≡ stepped s 0 (drainTurn (s .t) (s .l) (s .hand) (s .trackers) (trackerAt (s .trackers) 0) lent)
   unfolding drainTurn allIdle refusal unless
-  drain-turn = ⊎-elim (λ e. drain-is s bytes memory w len e ∙ rw (e, drained-fit, set-getD) refl) (λ e. drain-busy s bytes memory w len e ∙ stays 7 0 ∙ rw e refl) (true-or-false (allIdle s))
+  drain-turn = ⊎-elim (λ e. drain-is s bytes memory w len e ∙ rw (e, drained-fit, drains-all s bytes memory w len e (s .l) (omega arith) .bytes-is, set-getD) refl) (λ e. drain-busy s bytes memory w len e ∙ stays 7 0 ∙ rw e refl) (true-or-false (allIdle s))
 
   -- a line is its turn on the tracker that it names
   pub follows-turn : (a : Asks)

@@ -6,11 +6,11 @@ use Prim.Native.Nat.{ℕ, _+_, _-_, _≤_, _<_}
 use native.Mathlib.Omega.{arith}
 use lib.Dec.{ltb}
 use lib.ListN.{length, set}
+use Rattle.geometry.specs.TagMemory.{mostTrackers}
 use Rattle.laws.specs.Choice.{both}
 use Rattle.laws.specs.Bytes.{part, splice, fits}
 use Rattle.laws.proofs.Choice.{both-left, both-right}
 use Rattle.tracker.specs.declared.Tracker.{Tracker}
-use Rattle.tracker.specs.declared.Answer.{Answer}
 use Rattle.tracker.specs.Answer.{Said, says, no}
 use Rattle.script.specs.Script.{Asks, asksFor}
 use Rattle.text.specs.Text.{lineText, lineIn, most}
@@ -22,7 +22,8 @@ use Rattle.rules.specs.Run.{Kept}
 use Rattle.rules.proofs.Calls.{Sound}
 use Rattle.rules.proofs.Whole.{whole-facts, t-least, t-most}
 use Rattle.lines.specs.Lines.{rows}
-use Rattle.turned.specs.Steps.{Steps}
+use Rattle.turned.specs.declared.Turned as left
+use Rattle.turned.specs.Steps.{turned}
 use Rattle.play.specs.Turn.{named, lineTurn}
 use Rattle.play.specs.Play.{Played, follows, refuses, lineEnd, goesOn, after, lineDone, played}
 use Rattle.play.proofs.Chunk.{goesOn-end, taken-more, played-stops, played-turn}
@@ -77,16 +78,17 @@ under n t l hand lines trackers bytes memory number taken output written =
       written = written;
     }
 
--- the parts that a turn leaves are those of its `Out`
-told : (s : State) (number taken : ℕ) (output : List ℕ) (written e x : ℕ) (bytes memory : List ℕ) {want : Turned} {answer : Answer} {hand : ℕ} {u : Tracker} {lines bytes' memory' output' : List ℕ} {written' : ℕ}
+-- what a turn leaves is its `Out`
+told : (s : State) (number taken : ℕ) (output : List ℕ) (written e x : ℕ) (bytes memory : List ℕ) (q : left.Turned) {want : Turned} {lines bytes' memory' output' : List ℕ} {written' : ℕ}
     → fits output written most ≡ true
-    → Steps want answer hand u lines bytes' memory'
-    → output' ≡ splice output written (lineIn output written (number + 1) (says answer))
-    → written' ≡ written + length (lineIn output written (number + 1) (says answer))
-    → under (s .n) (s .t) (s .l) hand lines (set (s .trackers) x u) bytes' memory' (number + 1) (e + 1) output' written'
+    → turned q lines bytes' memory' ≡ want
+    → output' ≡ splice output written (lineIn output written (number + 1) (says (q .answer)))
+    → written' ≡ written + length (lineIn output written (number + 1) (says (q .answer)))
+    → under (s .n) (s .t) (s .l) (q .hand) lines (set (s .trackers) x (q .tracker)) bytes' memory' (number + 1) (e + 1) output' written'
     ≡ after (record { kept = record { state = s; bytes = bytes; memory = memory }; number = number; taken = taken; output = output; written = written }) e (stepped s x want)
-told s number taken output written e x bytes memory {want} {answer} f st o v =
-    rw (o, v, line-in output written (number + 1) (says answer) f, st .said, st .hand, st .tracker, st .lines, st .bytes, st .memory) refl
+told s number taken output written e x bytes memory q f st o v =
+    rw (o, v, line-in output written (number + 1) (says (q .answer)) f)
+    (ap (λ (y : Turned). after (record { kept = record { state = s; bytes = bytes; memory = memory }; number = number; taken = taken; output = output; written = written }) e (stepped s x y)) st)
 
 done-at : (rule : Kept → Asks → Out) (input : List ℕ) (p : Played) (e : ℕ) (a : Asks) → e ≡ lineEnd input (p .taken) → a ≡ asksFor (part input (p .taken) (e - p .taken))
     → after p e (rule (p .kept) a) ≡ lineDone rule input p
@@ -95,26 +97,26 @@ done-at rule input p e a ee ae = rw (ae, ee) refl
 
 -- one more line, as the code does it
 pub going-line : (input : List ℕ) {begun : Played} (n t l hand : ℕ) (lines : List ℕ) (trackers : List Tracker) (bytes memory : List ℕ) (number taken : ℕ) (output : List ℕ) (written : ℕ)
-    (e x : ℕ) (a : Asks) {answer : Answer} {hand' : ℕ} {u : Tracker} {lines' bytes' memory' output' : List ℕ} {written' : ℕ}
+    (e x : ℕ) (a : Asks) (q : left.Turned) {lines' bytes' memory' output' : List ℕ} {written' : ℕ}
     → Going input begun (under n t l hand lines trackers bytes memory number taken output written)
     → goesOn input (under n t l hand lines trackers bytes memory number taken output written) ≡ true
     → e ≡ lineEnd input taken
     → a ≡ asksFor (part input taken (e - taken))
     → x ≡ named t a
-    → Steps (lineTurn n t l hand a trackers (trackerAt trackers x) (rows lines bytes memory)) answer hand' u lines' bytes' memory'
-    → output' ≡ splice output written (lineIn output written (number + 1) (says answer))
-    → written' ≡ written + length (lineIn output written (number + 1) (says answer))
-    → Going input begun (under n t l hand' lines' (set trackers x u) bytes' memory' (number + 1) (e + 1) output' written')
-going-line input {begun} n t l hand lines trackers bytes memory number taken output written e x a g h ee ae xe st o v =
+    → turned q lines' bytes' memory' ≡ lineTurn n t l hand a trackers (trackerAt trackers x) (rows lines bytes memory)
+    → output' ≡ splice output written (lineIn output written (number + 1) (says (q .answer)))
+    → written' ≡ written + length (lineIn output written (number + 1) (says (q .answer)))
+    → Going input begun (under n t l (q .hand) lines' (set trackers x (q .tracker)) bytes' memory' (number + 1) (e + 1) output' written')
+going-line input {begun} n t l hand lines trackers bytes memory number taken output written e x a q g h ee ae xe st o v =
     let s : State = record { n = n; t = t; l = l; hand = hand; lines = lines; trackers = trackers } in
     let p : Played = under n t l hand lines trackers bytes memory number taken output written in
-    let told-is = told s number taken output written e x bytes memory (goesOn-fits input p h) st o v in
-    let turned : follows (record { state = s; bytes = bytes; memory = memory }) a ≡ stepped s (named t a) (lineTurn n t l hand a trackers (trackerAt trackers (named t a)) (rows lines bytes memory)) =
+    let told-is = told s number taken output written e x bytes memory q (goesOn-fits input p h) st o v in
+    let done : follows (record { state = s; bytes = bytes; memory = memory }) a ≡ stepped s (named t a) (lineTurn n t l hand a trackers (trackerAt trackers (named t a)) (rows lines bytes memory)) =
     follows-turn s bytes memory (g .is-whole) (g .right) a in
-    subst (λ (q : Played). Going input begun q)
+    subst (λ (z : Played). Going input begun z)
     (sym (told-is
     ∙ ap (λ (y : ℕ). after p e (stepped s y (lineTurn n t l hand a trackers (trackerAt trackers y) (rows lines bytes memory)))) xe
-    ∙ ap (λ (d : Out). after p e d) (sym turned)
+    ∙ ap (λ (d : Out). after p e d) (sym done)
     ∙ done-at follows input p e a ee ae))
     (going-more input g h)
 
@@ -154,7 +156,7 @@ going-stops input n t l hand lines trackers bytes memory number output {p} {ls} 
     ∙ ap (λ (x : List Tracker). played follows (length input) input (under n t l hand ls x bytes memory number 0 output 0)) b
 
 -- the tracker that a line names is in the table
-pub going-named : (input : List ℕ) {begun p : Played} → Going input begun p → (a : Asks) → named (p .kept .state .t) a < 8
+pub going-named : (input : List ℕ) {begun p : Played} → Going input begun p → (a : Asks) → named (p .kept .state .t) a < mostTrackers
 going-named input {begun} {p} g a =
     let f = whole-facts (p .kept .state) (g .is-whole) .limits-ok in
     let lo = t-least (p .kept .state .n) (p .kept .state .t) (p .kept .state .l) f in

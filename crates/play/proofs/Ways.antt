@@ -16,26 +16,20 @@ use Rattle.laws.proofs.Choice.{both-left, both-right, both-false-left, both-fal
 use Rattle.laws.proofs.Scan.{first-zero, first-hit, first-miss}
 use Rattle.tracker.specs.declared.Access.{Access}
 use Rattle.tracker.specs.declared.Tracker.{Tracker}
-use Rattle.tracker.specs.declared.Answer.{Answer}
 use Rattle.tracker.specs.Tracker.{isIdle, readOf, writeOf, issued}
-use Rattle.tracker.specs.Answer.{ok, no}
+use Rattle.tracker.specs.Answer.{no}
 use Rattle.script.specs.declared.Command.{Command}
 use Rattle.script.specs.declared.Command.the-variants.{New, Read, Write, Step, Drain, Bad}
 use Rattle.script.specs.Script.{news, asks}
 use Rattle.geometry.specs.TagMemory.{inLimits, memoryLength}
 use Rattle.rules.specs.State.{State, Rows, trackerAt, lengthsRight, zeroState}
 use Rattle.rules.specs.Whole.{limits, whole}
-use Rattle.rules.specs.Step.{Turned, refuses, turnOf}
+use Rattle.rules.specs.Step.{refuses, turnOf}
 use Rattle.rules.specs.Calls.{Out, refused, fresh, issueTests, stepTests, drainTests}
 use Rattle.rules.specs.Run.{Kept}
-use Rattle.lines.specs.Lines.{rows, drainedRows}
-use Rattle.turned.specs.Steps.{Steps}
-use Rattle.play.specs.Turn.{named, issueTurn, stepTurn, drainTurn, lineTurn}
-use Rattle.play.specs.Play.{begins, follows, lineEnd, starts, played, plays}
-
--- a line that leaves what one rule says leaves what an equal rule says
-pub by-rule : {want rule : Turned} {a : Answer} {h : ℕ} {t : Tracker} {ls bs m : List ℕ} → want ≡ rule → Steps rule a h t ls bs m → Steps want a h t ls bs m
-by-rule e s = rw e s
+use Rattle.lines.specs.Lines.{drainedRows}
+use Rattle.play.specs.Turn.{named, accepts, issueTurn, stepTurn, drainTurn, lineTurn}
+use Rattle.play.specs.Play.{replayLeaves, begins, follows, lineEnd, starts, played, plays}
 
 -- refused with c, or not
 module _ (n t hand x : ℕ) (a : Access) (us : List Tracker) (u : Tracker) (r : Rows) (c : ℕ) (e : c ≡ refusal (issueTests n t x a us)) where
@@ -43,7 +37,7 @@ module _ (n t hand x : ℕ) (a : Access) (us : List Tracker) (u : Tracker) (r : 
   unfolding issueTurn
   issue-no h = rw (← e) (unless-no _ _ h)
 
-  pub issue-ok : c ≡ 0 → issueTurn n t hand x a us u r ≡ (record { said = ok; hand = hand; tracker = issued a; rows = r })
+  pub issue-ok : c ≡ 0 → issueTurn n t hand x a us u r ≡ accepts hand (issued a) r
   unfolding issueTurn
   issue-ok z = unless-0 _ _ (sym e ∙ z)
 
@@ -61,7 +55,7 @@ module _ (t l hand : ℕ) (us : List Tracker) (u : Tracker) (r : Rows) (c : ℕ)
   unfolding drainTurn
   drain-no h = rw (← e) (unless-no _ _ h)
 
-  pub drain-ok : c ≡ 0 → drainTurn t l hand us u r ≡ (record { said = ok; hand = hand; tracker = u; rows = rows (drainedRows l r .lines) (r .bytes) (drainedRows l r .memory) })
+  pub drain-ok : c ≡ 0 → drainTurn t l hand us u r ≡ accepts hand u (drainedRows l r)
   unfolding drainTurn
   drain-ok z = unless-0 _ _ (sym e ∙ z)
 
@@ -198,10 +192,10 @@ module _ (bytes memory : List ℕ) where
   unfolding fresh limits inLimits both refusal unless
   refused-of c e = rw e refl
 
-  pub begins-large : (n l t : ℕ) → 800 < n → begins (news n l t) bytes memory ≡ refused 1 zeroState bytes memory
+  pub begins-large : (n l t : ℕ) → replayLeaves < n → begins (news n l t) bytes memory ≡ refused 1 zeroState bytes memory
   begins-large n l t q = rw (lt-leb _ _ q)
 
-  pub begins-small : (n l t : ℕ) → n ≤ 800 → begins (news n l t) bytes memory ≡ fresh n t l bytes memory
+  pub begins-small : (n l t : ℕ) → n ≤ replayLeaves → begins (news n l t) bytes memory ≡ fresh n t l bytes memory
   begins-small n l t q = rw (le-leb _ _ q)
 
   pub begins-at : {c d : Command} → c ≡ d → begins (asks c) bytes memory ≡ begins (asks d) bytes memory

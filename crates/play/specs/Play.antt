@@ -17,8 +17,11 @@ use Rattle.rules.specs.Run as run
 use Rattle.rules.specs.Run.{Kept, kept, does}
 
 -- "Line 1: `n N L T`, N at most 800 here (else refusal 1)"; a first line of another form gets 12
+abbrev pub replayLeaves : ℕ
+replayLeaves = 800
+
 abbrev pub begins : Asks → List ℕ → List ℕ → Out
-begins (news n l t) bytes memory = pick (leb n 800) (fresh n t l bytes memory) (refused 1 zeroState bytes memory)
+begins (news n l t) bytes memory = pick (leb n replayLeaves) (fresh n t l bytes memory) (refused 1 zeroState bytes memory)
 begins (reads x g b) bytes memory = refused 12 zeroState bytes memory
 begins (writes x g v b) bytes memory = refused 12 zeroState bytes memory
 begins (steps x) bytes memory = refused 12 zeroState bytes memory

@@ -13,7 +13,7 @@ use Rattle.script.specs.Script.{Asks, news, reads, writes, steps, drains, bad}
 use Rattle.rules.specs.State.{Rows, trackerAt}
 use Rattle.rules.specs.Step.{Turned, refuses, turnOf}
 use Rattle.rules.specs.Calls.{issueTests, stepTests, drainTests}
-use Rattle.lines.specs.Lines.{rows, drainedRows}
+use Rattle.lines.specs.Lines.{drainedRows}
 
 -- the tracker, of t, that a line names; 0 where it names none
 unfoldable pub named : (t : ℕ) → Asks → ℕ
@@ -24,10 +24,14 @@ named t (steps x) = pick (ltb x t) x 0
 named t drains = 0
 named t bad = 0
 
+-- a call that is accepted
+abbrev pub accepts : (hand : ℕ) → Tracker → Rows → Turned
+accepts hand u r = record { said = ok; hand = hand; tracker = u; rows = r }
+
 -- an issue to tracker x, among the trackers us; u is the one that is left
 unfoldable pub issueTurn : (n t hand x : ℕ) → Access → (us : List Tracker) (u : Tracker) → Rows → Turned
 issueTurn n t hand x a us u r =
-    unless (refusal (issueTests n t x a us)) (record { said = ok; hand = hand; tracker = issued a; rows = r }) (λ c. refuses c u hand r)
+    unless (refusal (issueTests n t x a us)) (accepts hand (issued a) r) (λ c. refuses c u hand r)
 
 -- a step of tracker x, which is u
 unfoldable pub stepTurn : (n t l hand x : ℕ) → (us : List Tracker) (u : Tracker) → Rows → Turned
@@ -35,10 +39,7 @@ stepTurn n t l hand x us u r = unless (refusal (stepTests t x us)) (turnOf n l h
 
 -- a drain
 unfoldable pub drainTurn : (t l hand : ℕ) → (us : List Tracker) (u : Tracker) → Rows → Turned
-drainTurn t l hand us u r =
-    unless (refusal (drainTests (all (λ x. isIdle (trackerAt us x)) t)))
-    (record { said = ok; hand = hand; tracker = u; rows = rows (drainedRows l r .lines) (r .bytes) (drainedRows l r .memory) })
-    (λ c. refuses c u hand r)
+drainTurn t l hand us u r = unless (refusal (drainTests (all (λ x. isIdle (trackerAt us x)) t))) (accepts hand u (drainedRows l r)) (λ c. refuses c u hand r)
 
 unfoldable pub lineTurn : (n t l hand : ℕ) → Asks → (us : List Tracker) (u : Tracker) → Rows → Turned
 lineTurn n t l hand (news a b c) us u r = refuses 12 u hand r

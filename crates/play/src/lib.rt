@@ -19,12 +19,13 @@ ghost use Rattle.laws.specs.Choice.{pick, both};
 ghost use Rattle.laws.specs.Bytes.{fits};
 ghost use Rattle.text.specs.Text.{most};
 ghost use Rattle.script.specs.Script.{asks, news};
+ghost use Rattle.geometry.specs.TagMemory.{mostLines, mostTrackers};
 ghost use Rattle.rules.specs.State.{lengthsRight, zeroState};
 ghost use Rattle.rules.specs.Whole.{whole};
 ghost use Rattle.rules.specs.Calls.{refused};
 ghost use Rattle.rules.specs.Run.{Kept};
 ghost use Rattle.lines.specs.Lines.{rows};
-ghost use Rattle.turned.specs.Steps.{Steps};
+ghost use Rattle.turned.specs.Steps.{turned};
 ghost use Rattle.play.specs.Turn.{named, issueTurn, stepTurn, drainTurn, lineTurn};
 ghost use Rattle.play.specs.Play.{begins, lineEnd, follows, starts, played, plays, refusesAll};
 ghost use Rattle.cache.specs.Seen.{seen, did};
@@ -55,10 +56,10 @@ fn issue(
     hand: usize,
     x: u32,
     access: Access,
-    trackers: [Tracker; 8],
+    trackers: [Tracker; Geometry::MOST_TRACKERS],
     u: Tracker,
 ) -> Turned
-    ensures { λ r. ⌜ ((ls bs m : List ℕ) → Steps (issueTurn n t hand x access trackers u (rows ls bs m)) (r .answer) (r .hand) (r .tracker) ls bs m) ⌝ }
+    ensures { λ r. ⌜ ((ls bs m : List ℕ) → turned r ls bs m ≡ issueTurn n t hand x access trackers u (rows ls bs m)) ⌝ }
 {
     let c = whole::issue_refusal(n, t, x as u64, access, trackers);
     if 0 < c {
@@ -78,13 +79,13 @@ fn one_step(
     l: usize,
     hand: usize,
     x: u32,
-    trackers: [Tracker; 8],
+    trackers: [Tracker; Geometry::MOST_TRACKERS],
     u: Tracker,
     lines: &mut [u32],
     bytes: &mut [u8],
     memory: &mut [u8],
 ) -> Turned
-    ensures { λ r. ⌜ Steps (stepTurn n t l hand x trackers u (rows (now (lines .entry)) (now (bytes .entry)) (now (memory .entry)))) (r .answer) (r .hand) (r .tracker) (now (lines .exit)) (now (bytes .exit)) (now (memory .exit)) ⌝ }
+    ensures { λ r. ⌜ turned r (now (lines .exit)) (now (bytes .exit)) (now (memory .exit)) ≡ stepTurn n t l hand x trackers u (rows (now (lines .entry)) (now (bytes .entry)) (now (memory .entry))) ⌝ }
 {
     let c = whole::step_refusal(t, x as u64, trackers);
     if 0 < c {
@@ -98,13 +99,13 @@ fn drain(
     t: u32,
     l: usize,
     hand: usize,
-    trackers: [Tracker; 8],
+    trackers: [Tracker; Geometry::MOST_TRACKERS],
     u: Tracker,
     lines: &mut [u32],
     bytes: &[u8],
     memory: &mut [u8],
 ) -> Turned
-    ensures { λ r. ⌜ Steps (drainTurn t l hand trackers u (rows (now (lines .entry)) (now (bytes .entry)) (now (memory .entry)))) (r .answer) (r .hand) (r .tracker) (now (lines .exit)) (now (bytes .entry)) (now (memory .exit)) ⌝ }
+    ensures { λ r. ⌜ turned r (now (lines .exit)) (now (bytes .entry)) (now (memory .exit)) ≡ drainTurn t l hand trackers u (rows (now (lines .entry)) (now (bytes .entry)) (now (memory .entry))) ⌝ }
 {
     let c = whole::drain_refusal(t, trackers);
     if 0 < c {
@@ -125,13 +126,13 @@ fn follow(
     l: usize,
     hand: usize,
     c: Command,
-    trackers: [Tracker; 8],
+    trackers: [Tracker; Geometry::MOST_TRACKERS],
     u: Tracker,
     lines: &mut [u32],
     bytes: &mut [u8],
     memory: &mut [u8],
 ) -> Turned
-    ensures { λ r. ⌜ Steps (lineTurn n t l hand (asks c) trackers u (rows (now (lines .entry)) (now (bytes .entry)) (now (memory .entry)))) (r .answer) (r .hand) (r .tracker) (now (lines .exit)) (now (bytes .exit)) (now (memory .exit)) ⌝ }
+    ensures { λ r. ⌜ turned r (now (lines .exit)) (now (bytes .exit)) (now (memory .exit)) ≡ lineTurn n t l hand (asks c) trackers u (rows (now (lines .entry)) (now (bytes .entry)) (now (memory .entry))) ⌝ }
 {
     match c {
         Command::New(a, b, d) => turned::refuses(12, hand, u),
@@ -206,14 +207,14 @@ fn goes_on(e: usize, input: &[u8], output: &[u8], written: usize, number: u64) -
 }
 
 // What the type says of an array's length, said in a contract.
-fn row(a: [u32; 64]) -> [u32; 64]
-    ensures { λ r. ⌜ (r ≡ a) × (length r ≡ 64) ⌝ }
+fn row(a: [u32; Geometry::MOST_LINES]) -> [u32; Geometry::MOST_LINES]
+    ensures { λ r. ⌜ (r ≡ a) × (length r ≡ mostLines) ⌝ }
 {
     a
 }
 
-fn table(a: [Tracker; 8]) -> [Tracker; 8]
-    ensures { λ r. ⌜ (r ≡ a) × (length r ≡ 8) ⌝ }
+fn table(a: [Tracker; Geometry::MOST_TRACKERS]) -> [Tracker; Geometry::MOST_TRACKERS]
+    ensures { λ r. ⌜ (r ≡ a) × (length r ≡ mostTrackers) ⌝ }
 {
     a
 }

@@ -35,8 +35,8 @@ fn before() -> Stage {
         t: 0,
         l: 0,
         hand: 0,
-        lines: [0; 64],
-        trackers: [idle; 8],
+        lines: [0; Geometry::MOST_LINES],
+        trackers: [idle; Geometry::MOST_TRACKERS],
     };
     Stage {
         state,
@@ -77,7 +77,7 @@ fn shape_of(c: Command) -> Shape {
     match c {
         Command::New(n, l, t) => Shape {
             n,
-            lines: least(l as usize, 64),
+            lines: least(l as usize, Geometry::MOST_LINES),
         },
         Command::Read(x, g, bottom) => Shape { n: 0, lines: 0 },
         Command::Write(x, g, v, bottom) => Shape { n: 0, lines: 0 },
@@ -111,7 +111,10 @@ fn memory_cut(n: u32, memory: &[u8]) -> usize
 fn bytes_cut(l: usize, bytes: &[u8]) -> usize
     ensures { λ r. ⌜ r ≤ length (now (bytes .entry)) ⌝ }
 {
-    least(Geometry::BLOCK_LEN * least(l, 64), bytes.len())
+    least(
+        Geometry::BLOCK_LEN * least(l, Geometry::MOST_LINES),
+        bytes.len(),
+    )
 }
 
 // Line 1, where it ends in the chunk.

@@ -1,7 +1,7 @@
 -- "If another tracker holds this map block": in a whole state that is so exactly if the block's line names a holder.
-use mathlib.Core.Path.{_≡_, refl, sym, ap, _∙_}
-use mathlib.Core.Bool.{Bool, true, false}
-use Prim.Native.Nat.{ℕ, suc, _+_, _-_, _<_}
+use mathlib.Core.Path.{_≡_, sym, ap, _∙_}
+use mathlib.Core.Bool.{true, false}
+use Prim.Native.Nat.{ℕ, suc, _-_, _<_}
 use native.Mathlib.Omega.{arith}
 use borrow.Author.Tests.{eqb-true}
 use Rattle.laws.proofs.Choice.{not-both-ways, both-left, both-right}
@@ -9,9 +9,9 @@ use Rattle.tracker.specs.Tracker.{holdsAt}
 use Rattle.line.specs.Word.{holder, held}
 use Rattle.line.specs.Find.{lineOf}
 use Rattle.rules.specs.State.{State, trackerAt}
-use Rattle.rules.specs.Whole.{mapBlock, holds}
+use Rattle.rules.specs.Whole.{holds}
 use Rattle.rules.proofs.Words.{held-holder, holder-held}
-use Rattle.rules.proofs.Lined.{at, Has, Held, low, lineOf-is, lineOf-has}
+use Rattle.rules.proofs.Lined.{at, low, lineOf-is, lineOf-has}
 use Rattle.rules.proofs.Whole.{heldOf, heldOf-yes, heldOf-is, heldOf-holds, Whole}
 
 -- a tracker other than x that holds block m

@@ -1,40 +1,40 @@
 -- A fresh or opened memory begins with a whole state; the zero state is broken.
 use mathlib.Core.Path.{_≡_, refl, sym, ap, _∙_}
-use mathlib.Core.Bool.{Bool, true, false}
+use mathlib.Core.Bool.{true, false}
 use mathlib.Core.List.{List}
 use mathlib.Core.Logic.{⊎-elim}
-use Prim.Native.Nat.{ℕ, zero, suc, _+_, _-_, _*_, _<_, _≤_}
+use Prim.Native.Nat.{ℕ, _-_, _<_}
 use native.Mathlib.Omega.{arith}
-use lib.ListN.{length, getD, replicate, length-replicate}
+use lib.ListN.{replicate}
 use Rattle.laws.proofs.Writes.{getD-replicate}
 use Rattle.laws.proofs.Choice.{not-both-ways}
 use Rattle.laws.specs.Refusal.{refusal, unless}
 use Rattle.laws.proofs.Refusal.{refusal-hold, refused-or-not, unless-0, unless-no, unless-by}
 use Rattle.memory.specs.True.{isTrue, clearedMap}
 use Rattle.tracker.specs.Answer.{ok, no}
-use Rattle.geometry.specs.TagMemory.{blocks}
+use Rattle.geometry.specs.TagMemory.{mostTrackers, mostLines}
 use Rattle.tracker.specs.declared.Tracker.{Tracker}
 use Rattle.tracker.specs.Tracker.{idle, isIdle, holdsAt}
-use Rattle.line.specs.Word.{used, holder}
+use Rattle.line.specs.Word.{used}
 use Rattle.rules.specs.State.{State, trackerAt, begun, zeroState, lengthsRight}
 use Rattle.rules.specs.Whole.{limits, phaseWhole, whole}
 use Rattle.rules.specs.Calls.{Out, accepted, refused, freshTests, fresh, openTests, opened}
 use Rattle.line.proofs.Words.{free-used}
-use Rattle.rules.proofs.Lined.{at, Has, Lined}
-use Rattle.rules.proofs.Whole.{heldOf, heldOf-no, Tracked, Whole, facts-whole, t-most, t-least, l-least, l-most}
+use Rattle.rules.proofs.Lined.{at, Has}
+use Rattle.rules.proofs.Whole.{heldOf, heldOf-no, Whole, facts-whole, t-most, l-least, l-most}
 
 module _ (n t l : ℕ) (lim : limits n t l ≡ true) where
-  free-line : (i : ℕ) → used (at (replicate 64 0) i) ≡ false
-  free-line i = ap used (getD-replicate 64 i 0) ∙ free-used
+  free-line : (i : ℕ) → used (at (replicate mostLines 0) i) ≡ false
+  free-line i = ap used (getD-replicate mostLines i 0) ∙ free-used
 
-  none : (i b : ℕ) → Has (replicate 64 0) i b → ⊥
+  none : (i b : ℕ) → Has (replicate mostLines 0) i b → ⊥
   none i b h = not-both-ways (h .is-used) (free-line i)
 
-  idle-tracker : (x : ℕ) → trackerAt (replicate 8 idle) x ≡ idle
-  idle-tracker x = getD-replicate 8 x idle
+  idle-tracker : (x : ℕ) → trackerAt (replicate mostTrackers idle) x ≡ idle
+  idle-tracker x = getD-replicate mostTrackers x idle
 
-  no-hold : (x : ℕ) → heldOf n (replicate 8 idle) x ≡ 0
-  no-hold x = heldOf-no n (replicate 8 idle) x (ap (λ (u : Tracker). holdsAt (u .phase)) (idle-tracker x))
+  no-hold : (x : ℕ) → heldOf n (replicate mostTrackers idle) x ≡ 0
+  no-hold x = heldOf-no n (replicate mostTrackers idle) x (ap (λ (u : Tracker). holdsAt (u .phase)) (idle-tracker x))
 
   pub begun-whole : whole (begun n t l) ≡ true
   begun-whole = facts-whole (begun n t l) (record {
@@ -103,10 +103,10 @@ module _ (n t l : ℕ) (bytes memory : List ℕ) where
   open-refused h = unless-no _ _ h
 
   -- refused or not, every tracker is idle
-  pub fresh-trackers : fresh n t l bytes memory .state .trackers ≡ replicate 8 idle
+  pub fresh-trackers : fresh n t l bytes memory .state .trackers ≡ replicate mostTrackers idle
   unfolding fresh
-  fresh-trackers = unless-by {c = refusal (freshTests n t l bytes memory)} _ (λ c. refused c zeroState bytes memory) (λ (o : Out). o .state .trackers ≡ replicate 8 idle) (λ _. refl) (λ _. refl)
+  fresh-trackers = unless-by {c = refusal (freshTests n t l bytes memory)} _ (λ c. refused c zeroState bytes memory) (λ (o : Out). o .state .trackers ≡ replicate mostTrackers idle) (λ _. refl) (λ _. refl)
 
-  pub open-trackers : opened n t l bytes memory .state .trackers ≡ replicate 8 idle
+  pub open-trackers : opened n t l bytes memory .state .trackers ≡ replicate mostTrackers idle
   unfolding opened
-  open-trackers = unless-by {c = refusal (openTests n t l bytes memory)} _ (λ c. refused c zeroState bytes memory) (λ (o : Out). o .state .trackers ≡ replicate 8 idle) (λ _. refl) (λ _. refl)
+  open-trackers = unless-by {c = refusal (openTests n t l bytes memory)} _ (λ c. refused c zeroState bytes memory) (λ (o : Out). o .state .trackers ≡ replicate mostTrackers idle) (λ _. refl) (λ _. refl)

@@ -2,41 +2,32 @@
 use mathlib.Core.Path.{_≡_, refl, sym, ap, _∙_, subst}
 use mathlib.Core.Bool.{Bool, true, false, not}
 use mathlib.Core.List.{List}
-use mathlib.Core.Logic.{_⊎_, inl, inr, ⊎-elim}
-use Prim.Native.Nat.{ℕ, zero, suc, _+_, _-_, _*_, _<_, _≤_}
+use mathlib.Core.Logic.{_⊎_, ⊎-elim}
+use Prim.Native.Nat.{ℕ, zero, suc, _-_, _*_, _<_, _≤_}
 use native.Mathlib.Omega.{arith}
-use lib.Dec.{eqb, ltb, leb}
-use lib.ListN.{length, getD, set, length-set, replicate, length-replicate}
-use lib.Seq.{getD-set-same, getD-set-other}
-use borrow.Author.Tests.{lt-ltb, le-ltb, ltb-true, ltb-false, le-leb, leb-true, eqb-true, eqb-false, eq-eqb, ne-eqb, not-true}
+use lib.ListN.{length, set, length-set}
+use borrow.Author.Tests.{lt-ltb, ltb-true, le-leb, eqb-true, eq-eqb, not-true}
 use native.Mathlib.Decide.{ℕ-discrete}
 use Rattle.tracker.proofs.Phases.{idle-loose}
-use Rattle.geometry.specs.TagMemory.{groups}
-use Rattle.laws.specs.Choice.{pick, both}
-use Rattle.laws.specs.Scan.{all}
-use Rattle.laws.proofs.Choice.{not-both-ways, true-or-false, both-left, both-right, both-true}
+use Rattle.geometry.specs.TagMemory.{groups, memoryLength, blocks}
+use Rattle.laws.proofs.Choice.{true-or-false, both-left, both-right, both-true}
 use Rattle.laws.proofs.Splice.{lt-or-ge}
 use Rattle.laws.proofs.Scan.{all-at}
-use Rattle.laws.specs.Refusal.{Tests, refusal, unless}
+use Rattle.laws.specs.Refusal.{refusal, unless}
 use Rattle.laws.proofs.Refusal.{refusal-0, refusal-hold, refusal-past, refused-or-not, unless-0, unless-no}
-use Rattle.geometry.specs.TagMemory.{inLimits, memoryLength, blocks}
-use Rattle.tracker.specs.declared.Phase.{Phase}
-use Rattle.tracker.specs.declared.Phase.the-variants.{Idle, Probe, Map, Leaf, Set, Clear}
 use Rattle.tracker.specs.declared.Access.{Access}
-use Rattle.tracker.specs.declared.Tracker.{Tracker}
-use Rattle.tracker.specs.Tracker.{idle, isIdle, isIdleAt, holdsAt, issued, firstPhase}
-use Rattle.tracker.specs.Answer.{Said, ok}
-use Rattle.line.specs.Word.{used, blockOf, holder, cleaned}
-use Rattle.rules.specs.State.{State, Rows, trackerAt, lengthsRight, begun}
-use Rattle.rules.specs.Whole.{limits, mapBlock, phaseWhole, whole}
-use Rattle.rules.specs.Place.{rowsFit, drained, writtenBack}
-use Rattle.rules.specs.Step.{Turned, fit, byPhase, turnOf}
-use Rattle.rules.specs.Calls.{Out, refused, accepted, fresh, opened, withTracker, withLines, stateTests, issueTests, issueNo, issue, stepped, stepTests, stepNo, step, allIdle, drainTests, drainNo, drain}
+use Rattle.tracker.specs.Tracker.{isIdle, holdsAt, issued, firstPhase}
+use Rattle.line.specs.Word.{blockOf, holder, cleaned, holders}
+use Rattle.rules.specs.State.{State, Rows, trackerAt, lengthsRight}
+use Rattle.rules.specs.Whole.{phaseWhole, whole}
+use Rattle.rules.specs.Place.{rowsFit, drained}
+use Rattle.rules.specs.Step.{fit, byPhase, turnOf}
+use Rattle.rules.specs.Calls.{Out, refused, accepted, withTracker, withLines, stateTests, issueTests, issueNo, issue, stepped, stepTests, stepNo, step, allIdle, drainTests, drainNo, drain}
 use Rattle.line.proofs.Words.{blockOf-cleaned, holder-cleaned, used-cleaned}
-use Rattle.rules.proofs.Lined.{at, Has, Held, Lined, low, loose-lined, same-holds}
-use Rattle.rules.proofs.Whole.{heldOf, heldOf-yes, heldOf-no, heldOf-is, Tracked, Whole, whole-facts, facts-whole, inLimits-of, t-most, l-least, l-most}
+use Rattle.rules.proofs.Lined.{at, Lined, loose-lined, same-holds}
+use Rattle.rules.proofs.Whole.{heldOf, heldOf-no, Whole, whole-facts, facts-whole, inLimits-of, t-most, l-least}
 use Rattle.rules.proofs.Placed.{written-length, held-used}
-use Rattle.rules.proofs.Keeps.{isNo, Keeps, keeps-byPhase, tracked-set, heldOf-other, tracker-same}
+use Rattle.rules.proofs.Keeps.{isNo, Keeps, Situation, keeps-byPhase, tracked-set, heldOf-other, tracker-same}
 use Rattle.rules.proofs.Ways.{turn-is}
 
 -- the lengths, as facts
@@ -90,10 +81,30 @@ module _ (s : State) (bytes memory : List ℕ) (w : whole s ≡ true) (len : len
 
   module _ (x : ℕ) (xl : x < s .t) where
     module _ (busy : isIdle (trackerAt (s .trackers) x) ≡ false) where
+      abbrev pub situation : Situation
+      situation = record {
+        n = s .n;
+        t = s .t;
+        l = s .l;
+        hand = s .hand;
+        x = x;
+        ts = s .trackers;
+        r = rows;
+        u = trackerAt (s .trackers) x;
+        limits-ok = whole-facts s w .limits-ok;
+        lined = whole-facts s w .lined;
+        tracked = whole-facts s w .tracked;
+        x-lt = xl;
+        hand-lt = whole-facts s w .hand-lt;
+        rows-fit = rows-fit;
+        is-u = refl;
+        busy = busy;
+      }
+
       pub turn-fit : fit (s .n) (s .l) x (trackerAt (s .trackers) x) rows ≡ true
       unfolding fit
       turn-fit =
-          let x1 : x < 127 = omega (arith, t-most (s .n) (s .t) (s .l) (f .limits-ok)) in
+          let x1 : x < holders = omega (arith, t-most (s .n) (s .t) (s .l) (f .limits-ok)) in
           both-true _ _ (both-true _ _ (inLimits-of (s .n) (s .t) (s .l) (f .limits-ok)) (le-leb _ _ (f .lined .long)))
           (both-true _ _ (lt-ltb _ _ (f .tracked .group-lt x busy)) (lt-ltb _ _ x1))
 
@@ -102,8 +113,7 @@ module _ (s : State) (bytes memory : List ℕ) (w : whole s ≡ true) (len : len
       turn-byPhase = turn-is (s .n) (s .l) (s .hand) x (trackerAt (s .trackers) x) rows turn-fit len
 
       pub turn-keeps : Keeps (s .n) (s .l) (s .t) x (s .trackers) rows (turnOf (s .n) (s .l) (s .hand) x (trackerAt (s .trackers) x) rows)
-      turn-keeps = rw turn-byPhase (keeps-byPhase (s .n) (s .t) (s .l) (s .hand) x (s .trackers) rows (f .limits-ok) (f .lined) (f .tracked) xl (f .hand-lt) rows-fit
-          (trackerAt (s .trackers) x) refl busy (trackerAt (s .trackers) x .phase) refl)
+      turn-keeps = rw turn-byPhase (keeps-byPhase situation (trackerAt (s .trackers) x .phase) refl)
 
       -- "the public step is the core"
       pub step-is : step s bytes memory x ≡ stepped s x (turnOf (s .n) (s .l) (s .hand) x (trackerAt (s .trackers) x) rows)

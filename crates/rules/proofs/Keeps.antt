@@ -2,25 +2,24 @@
 use mathlib.Core.Path.{_≡_, refl, sym, ap, _∙_, subst}
 use mathlib.Core.Bool.{Bool, true, false}
 use mathlib.Core.List.{List}
-use mathlib.Core.Logic.{_⊎_, inl, inr, ⊎-elim}
-use Prim.Native.Nat.{ℕ, zero, suc, _+_, _-_, _*_, _/_, _<_, _≤_}
+use mathlib.Core.Logic.{_⊎_, inl, inr}
+use Prim.Native.Nat.{ℕ, suc, _+_, _-_, _*_, _<_, _≤_}
 use native.Mathlib.Omega.{arith}
 use native.Mathlib.Decide.{ℕ-discrete}
-use lib.Dec.{eqb, ltb, leb}
+use lib.Dec.{ltb}
 use lib.ListN.{length, getD, set, length-set, replicate, length-replicate}
 use lib.Seq.{getD-set-same, getD-set-other}
-use borrow.Author.Tests.{lt-ltb, le-ltb, ltb-true, le-leb, leb-true, eqb-true, eq-eqb}
+use borrow.Author.Tests.{le-ltb}
 use Rattle.geometry.proofs.Places.{leafOf-lt, mapBlockOf-lt, mapBlocks-most}
-use Rattle.geometry.specs.TagMemory.{groups}
-use Rattle.laws.specs.Choice.{pick, both}
+use Rattle.geometry.specs.TagMemory.{groups, blocks, leafOf, byteOf}
+use Rattle.laws.specs.Choice.{pick}
 use Rattle.laws.specs.Bytes.{bytes}
 use Rattle.laws.specs.Bits.{withBit}
-use Rattle.laws.proofs.Choice.{not-both-ways, true-or-false, both-left, both-right, both-true, both-false-left, both-false-right}
+use Rattle.laws.proofs.Choice.{not-both-ways, true-or-false, both-false-left, both-false-right}
 use Rattle.laws.proofs.Splice.{lt-or-ge}
 use Rattle.laws.proofs.Put.{length-putW}
 use Rattle.laws.proofs.Value.{length-bytes}
-use Rattle.geometry.specs.TagMemory.{inLimits, blocks, mapBlocks, leafOf, byteOf, mapBlockOf, mapByteOf, mapBitOf, memoryLength, blockPlace}
-use Rattle.block.specs.Block.{putGroup, putBit, allZero}
+use Rattle.block.specs.Block.{putBit, allZero}
 use Rattle.tracker.specs.declared.Phase.{Phase}
 use Rattle.tracker.specs.declared.Phase.the-variants.{Idle, Probe, Map, Leaf, Set, Clear}
 use Rattle.tracker.specs.declared.Tracker.{Tracker}
@@ -28,16 +27,16 @@ use Rattle.tracker.specs.Tracker.{idle, isIdle, isIdleAt, holdsAt, goesTo, coun
 use Rattle.tracker.specs.Answer.{Said, ok, wait, moved, read, done, same, no as refusal}
 use Rattle.line.specs.Word.{used, blockOf, holder, held, heldBy, word}
 use Rattle.line.specs.Find.{lineOf}
-use Rattle.rules.specs.State.{State, Rows, trackerAt, lengthsRight}
-use Rattle.rules.specs.Whole.{limits, mapBlock, phaseWhole, whole}
-use Rattle.rules.specs.Place.{lineBytes, rowsFit, placeLine, placeHand, placeMemory, Brought, filled, withMemory, withLines, bringIn}
-use Rattle.rules.specs.Step.{Turned, ends, goes, waits, bitIn, groupIn, held-by, letGo, probe, holdsMap, onMap, map, leafRead, putIn, writeUnder1, writeUnder0, newLeaf, leafWrite, finish, holding, inLine, byPhase, fit, turnOf}
+use Rattle.rules.specs.State.{Rows, trackerAt}
+use Rattle.rules.specs.Whole.{limits, mapBlock, phaseWhole}
+use Rattle.rules.specs.Place.{lineBytes, rowsFit, placeLine, Brought, withLines, bringIn}
+use Rattle.rules.specs.Step.{Turned, ends, goes, waits, bitIn, groupIn, held-by, letGo, probe, holdsMap, onMap, map, leafRead, putIn, writeUnder1, writeUnder0, newLeaf, leafWrite, finish, holding, inLine, byPhase}
 use Rattle.line.proofs.Words.{blockOf-word, free-used, holder-word, used-word}
 use Rattle.rules.proofs.Words.{blockOf-heldBy, holder-free, holder-heldBy, loose-holder, used-heldBy}
-use Rattle.rules.proofs.Lined.{at, Has, Held, Lined, low, lineOf-is, lineOf-has, lineOf-none, loose-lined, held-lined, let-go-lined, same-holds, has-other, at-other, has-here, holder-here}
-use Rattle.rules.proofs.Whole.{heldOf, heldOf-yes, heldOf-no, heldOf-is, Tracked, Whole, whole-facts, facts-whole, inLimits-of, n-least, n-most, t-most, l-least, l-most}
-use Rattle.rules.proofs.Placed.{Brings, brings, place-loose, place-hand, place-memory-length, fill-lined, fill-has, fill-loose, fill-keeps}
-use Rattle.rules.proofs.Ways.{probe-miss, probe-read, probe-same, probe-other, map-read, map-same, map-create, map-hold, map-wait, map-on, leafRead-is, write1-same, write1-put, write0-same, write0-line, write0-place, leafWrite-0, leafWrite-1, bytesWith, putIn-empty, putIn-done, inLine-is, turn-is}
+use Rattle.rules.proofs.Lined.{at, Has, Held, Lined, low, lineOf-is, lineOf-has, lineOf-none, loose-lined, held-lined, let-go-lined, same-holds}
+use Rattle.rules.proofs.Whole.{heldOf, heldOf-yes, heldOf-no, heldOf-is, Tracked, n-most, t-most, l-least}
+use Rattle.rules.proofs.Placed.{Brings, brings, place-loose, place-hand, place-memory-length, fill-lined, fill-keeps}
+use Rattle.rules.proofs.Ways.{probe-miss, probe-read, probe-same, probe-other, map-read, map-same, map-create, map-hold, map-wait, map-on, leafRead-is, write1-same, write1-put, write0-same, write0-line, write0-place, leafWrite-0, leafWrite-1, bytesWith, putIn-empty, putIn-done, inLine-is}
 
 -- it is a refusal
 abbrev pub isNo : Said → Bool
@@ -121,29 +120,71 @@ leaf-loose n ts {lines} v i b h q = go (ℕ-discrete (holder (at lines i)) 0)
     go (yes e) = e
     go (no e) = absurd (let r = v .named i b h (omega arith) in let m = heldOf-is n ts _ b (r .1) in let z = m .1 in omega arith)
 
-module _ (n t l hand x : ℕ) (ts : List Tracker) (r : Rows) (lim : limits n t l ≡ true) (v : Lined (blocks n) l t (heldOf n ts) (r .lines)) (k : Tracked n t ts)
-    (xl : x < t) (hl : hand < l) (fit : rowsFit l (r .lines) (r .bytes) ≡ true) (u : Tracker) (is : trackerAt ts x ≡ u) (busy : isIdle u ≡ false) where
+-- what a step finds, whole: n leaves, t trackers and l lines in their limits, the hand, the trackers, the rows; and the busy tracker that steps, x, which is u
+pub record Situation : Type 0 where
+  pub n : ℕ
+  pub t : ℕ
+  pub l : ℕ
+  pub hand : ℕ
+  pub x : ℕ
+  pub ts : List Tracker
+  pub r : Rows
+  pub u : Tracker
+  pub limits-ok : limits n t l ≡ true
+  pub lined : Lined (blocks n) l t (heldOf n ts) (r .lines)
+  pub tracked : Tracked n t ts
+  pub x-lt : x < t
+  pub hand-lt : hand < l
+  pub rows-fit : rowsFit l (r .lines) (r .bytes) ≡ true
+  pub is-u : trackerAt ts x ≡ u
+  pub busy : isIdle u ≡ false
+
+module _ (sit : Situation) where
+  abbrev n : ℕ
+  n = sit .n
+
+  abbrev t : ℕ
+  t = sit .t
+
+  abbrev l : ℕ
+  l = sit .l
+
+  abbrev hand : ℕ
+  hand = sit .hand
+
+  abbrev x : ℕ
+  x = sit .x
+
+  abbrev ts : List Tracker
+  ts = sit .ts
+
+  abbrev r : Rows
+  r = sit .r
+
+  abbrev u : Tracker
+  u = sit .u
+
   xlong : x < length ts
-  xlong = omega (arith, k .long)
+  xlong = omega (arith, sit .tracked .long)
 
   group-ok : u .group < groups n
-  group-ok = rw (← is) (k .group-lt x (rw is busy))
+  group-ok = subst (λ (w : Tracker). w .group < groups n) (sit .is-u) (sit .tracked .group-lt x (ap isIdle (sit .is-u) ∙ sit .busy))
 
   phase-was : phaseWhole (u .write) (u .bottom) (u .phase) ≡ true
-  phase-was = subst (λ (z : Tracker). phaseWhole (z .write) (z .bottom) (z .phase) ≡ true) is (k .phase-ok x)
+  phase-was = subst (λ (z : Tracker). phaseWhole (z .write) (z .bottom) (z .phase) ≡ true) (sit .is-u) (sit .tracked .phase-ok x)
 
   leaf-of-lt : leafOf (u .group) < n
-  leaf-of-lt = leaf-lt n t l lim (u .group) group-ok
+  leaf-of-lt = leaf-lt n t l (sit .limits-ok) (u .group) group-ok
 
   few : t < l
-  few = omega (arith, l-least n t l lim)
+  few = omega (arith, l-least n t l (sit .limits-ok))
 
   -- what is held by x before and after
   was-held : holdsAt (u .phase) ≡ true → heldOf n ts x ≡ suc (mapBlock n (u .group))
-  was-held h = heldOf-yes n ts x (subst (λ (z : Tracker). holdsAt (z .phase) ≡ true) (sym is) h) ∙ ap (λ (z : Tracker). suc (mapBlock n (z .group))) is
+  was-held h = heldOf-yes n ts x (subst (λ (z : Tracker). holdsAt (z .phase) ≡ true) (sym (sit .is-u)) h) ∙ ap (λ (z : Tracker). suc (mapBlock n (z .group))) (sit .is-u)
 
   was-free : holdsAt (u .phase) ≡ false → heldOf n ts x ≡ 0
-  was-free h = heldOf-no n ts x (subst (λ (z : Tracker). holdsAt (z .phase) ≡ false) (sym is) h)
+  was-free h = heldOf-no n ts x (subst (λ (z : Tracker). holdsAt (z .phase) ≡ false) (sym (sit .is-u)) h)
 
   now-held : (u' : Tracker) → holdsAt (u' .phase) ≡ true → heldOf n (set ts x u') x ≡ suc (mapBlock n (u' .group))
   now-held u' h = heldOf-yes n (set ts x u') x (subst (λ (z : Tracker). holdsAt (z .phase) ≡ true) (sym (tracker-same ts x u' xlong)) h)
@@ -168,15 +209,15 @@ module _ (n t l hand x : ℕ) (ts : List Tracker) (r : Rows) (lim : limits n t l
   stays h u' h' e w = same-holds w (by-case u' (now-held u' h' ∙ ap (λ (g : ℕ). suc (mapBlock n g)) e ∙ sym (was-held h)))
 
   small : blocks n < 16777215
-  small = blocks-small n t l lim
+  small = blocks-small n t l (sit .limits-ok)
 
   -- a tracker comes to hold its map block, which is in line i
   comes-to-hold : {ls : List ℕ} (i : ℕ) → Lined (blocks n) l t (heldOf n ts) ls → Has ls i (mapBlock n (u .group)) → holder (at ls i) ≡ 0 → holdsAt (u .phase) ≡ false
       → Lined (blocks n) l t (heldOf n (set ts x (goesTo u Leaf))) (held-by ls i x)
   comes-to-hold {ls} i w h z f =
       let bl : blockOf (at ls i) < 16777215 = rw (h .is-block) (omega (arith, small, w .exists i _ h)) in
-      let x1 : x + 1 < 128 = omega (arith, t-most n t l lim) in
-      held-lined w i (heldBy (at ls i) (x + 1)) (low w i _ h) (heldOf n (set ts x (goesTo u Leaf))) x xl (λ y q. heldOf-other n ts x y (goesTo u Leaf) q)
+      let x1 : x + 1 < 128 = omega (arith, t-most n t l (sit .limits-ok)) in
+      held-lined w i (heldBy (at ls i) (x + 1)) (low w i _ h) (heldOf n (set ts x (goesTo u Leaf))) x (sit .x-lt) (λ y q. heldOf-other n ts x y (goesTo u Leaf) q)
       (mapBlock n (u .group)) h (used-heldBy (at ls i) (x + 1) bl x1) (blockOf-heldBy (at ls i) (x + 1) bl x1 ∙ h .is-block) z (holder-heldBy (at ls i) (x + 1) bl x1)
       (was-free f) (now-held (goesTo u Leaf) refl)
 
@@ -185,7 +226,7 @@ module _ (n t l hand x : ℕ) (ts : List Tracker) (r : Rows) (lim : limits n t l
       → used w' ≡ true → blockOf w' ≡ mapBlock n (u .group) → holder w' ≡ 0
       → Lined (blocks n) l t (heldOf n (set ts x idle)) (set ls j w')
   lets-go {ls} j w' w h z a b c =
-      let-go-lined w j w' (low w j _ h) (heldOf n (set ts x idle)) x xl (λ y q. heldOf-other n ts x y idle q)
+      let-go-lined w j w' (low w j _ h) (heldOf n (set ts x idle)) x (sit .x-lt) (λ y q. heldOf-other n ts x y idle q)
       (mapBlock n (u .group)) h a b z c (now-free idle refl)
 
   lets-go-word : {ls : List ℕ} (j : ℕ) → Lined (blocks n) l t (heldOf n ts) ls → Has ls j (mapBlock n (u .group)) → holder (at ls j) ≡ x + 1
@@ -195,17 +236,17 @@ module _ (n t l hand x : ℕ) (ts : List Tracker) (r : Rows) (lim : limits n t l
       lets-go j (heldBy (at ls j) 0) w h z (used-heldBy (at ls j) 0 bl (omega arith)) (blockOf-heldBy (at ls j) 0 bl (omega arith) ∙ h .is-block) (holder-heldBy (at ls j) 0 bl (omega arith))
 
   idle-tracked : Tracked n t (set ts x idle)
-  idle-tracked = tracked-set n t ts x idle k xl (λ e. absurd (not-both-ways refl e)) refl
+  idle-tracked = tracked-set n t ts x idle (sit .tracked) (sit .x-lt) (λ e. absurd (not-both-ways refl e)) refl
 
   goes-tracked : (p : Phase) → phaseWhole (u .write) (u .bottom) p ≡ true → Tracked n t (set ts x (goesTo u p))
-  goes-tracked p e = tracked-set n t ts x (goesTo u p) k xl (λ _. group-ok) e
+  goes-tracked p e = tracked-set n t ts x (goesTo u p) (sit .tracked) (sit .x-lt) (λ _. group-ok) e
 
   -- a step that changes no row and ends, or goes on to Map, from a phase that holds nothing
   ends-here : (a : Said) → isNo a ≡ false → holdsAt (u .phase) ≡ false → Keeps n l t x ts r (ends a hand r)
-  ends-here a s h = record { says = s; hand-lt = hl; lined = quiet h idle refl v; tracked = idle-tracked; lines-long = refl; bytes-long = refl; memory-long = refl }
+  ends-here a s h = record { says = s; hand-lt = sit .hand-lt; lined = quiet h idle refl (sit .lined); tracked = idle-tracked; lines-long = refl; bytes-long = refl; memory-long = refl }
 
   to-map : holdsAt (u .phase) ≡ false → Keeps n l t x ts r (goes u Map hand r)
-  to-map h = record { says = refl; hand-lt = hl; lined = quiet h (goesTo u Map) refl v; tracked = goes-tracked Map refl; lines-long = refl; bytes-long = refl; memory-long = refl }
+  to-map h = record { says = refl; hand-lt = sit .hand-lt; lined = quiet h (goesTo u Map) refl (sit .lined); tracked = goes-tracked Map refl; lines-long = refl; bytes-long = refl; memory-long = refl }
 
   pub keeps-probe : u .phase ≡ Probe → Keeps n l t x ts r (probe l hand u r)
   keeps-probe e = go (lt-or-ge (lineOf (r .lines) l (leafOf (u .group))) l) (true-or-false (u .write))
@@ -224,10 +265,10 @@ module _ (n t l hand x : ℕ) (ts : List Tracker) (r : Rows) (lim : limits n t l
 
   -- the map block is brought in, held by nobody
   map-brings : Brings (blocks n) l t (heldOf n ts) r (mapBlock n (u .group)) (bringIn l hand (mapBlock n (u .group)) r)
-  map-brings = brings r hand (mapBlock n (u .group)) v few fit hl (map-block n t l lim (u .group) group-ok) small
+  map-brings = brings r hand (mapBlock n (u .group)) (sit .lined) few (sit .rows-fit) (sit .hand-lt) (map-block n t l (sit .limits-ok) (u .group) group-ok) small
 
   leaf-brings : Brings (blocks n) l t (heldOf n ts) r (leafOf (u .group)) (bringIn l hand (leafOf (u .group)) r)
-  leaf-brings = brings r hand (leafOf (u .group)) v few fit hl (leaf-block n t l lim (u .group) group-ok) small
+  leaf-brings = brings r hand (leafOf (u .group)) (sit .lined) few (sit .rows-fit) (sit .hand-lt) (leaf-block n t l (sit .limits-ok) (u .group) group-ok) small
 
   module _ (m : u .phase ≡ Map) (b : Brought) (f : Brings (blocks n) l t (heldOf n ts) r (mapBlock n (u .group)) b) (z : holder (at (b .rows .lines) (b .line)) ≡ 0) where
     map-free : holdsAt (u .phase) ≡ false
@@ -262,8 +303,8 @@ module _ (n t l hand x : ℕ) (ts : List Tracker) (r : Rows) (lim : limits n t l
       waits-ok : Keeps n l t x ts r (waits u hand r)
       waits-ok = record {
         says = refl;
-        hand-lt = hl;
-        lined = quiet (rw m) (counted u) (rw m) v;
+        hand-lt = sit .hand-lt;
+        lined = quiet (rw m) (counted u) (rw m) (sit .lined);
         tracked = goes-tracked (u .phase) phase-was;
         lines-long = refl;
         bytes-long = refl;
@@ -282,13 +323,13 @@ module _ (n t l hand x : ℕ) (ts : List Tracker) (r : Rows) (lim : limits n t l
   -- from here on the tracker holds its map block, which is in line j
   module _ (h : holdsAt (u .phase) ≡ true) where
     pub in-j : Held (r .lines) x (mapBlock n (u .group))
-    in-j = v .in-line x (mapBlock n (u .group)) xl (was-held h)
+    in-j = sit .lined .in-line x (mapBlock n (u .group)) (sit .x-lt) (was-held h)
 
     pub j-is : lineOf (r .lines) l (mapBlock n (u .group)) ≡ in-j .line
-    j-is = lineOf-is v (in-j .line) (mapBlock n (u .group)) (in-j .has-it)
+    j-is = lineOf-is (sit .lined) (in-j .line) (mapBlock n (u .group)) (in-j .has-it)
 
     pub j-lt : lineOf (r .lines) l (mapBlock n (u .group)) < l
-    j-lt = rw j-is (low v (in-j .line) (mapBlock n (u .group)) (in-j .has-it))
+    j-lt = rw j-is (low (sit .lined) (in-j .line) (mapBlock n (u .group)) (in-j .has-it))
 
     pub j-has : Has (r .lines) (lineOf (r .lines) l (mapBlock n (u .group))) (mapBlock n (u .group))
     j-has = rw j-is (in-j .has-it)
@@ -350,7 +391,7 @@ module _ (n t l hand x : ℕ) (ts : List Tracker) (r : Rows) (lim : limits n t l
           b = bringIn l hand (leafOf (u .group)) r
 
           bl : leafOf (u .group) < blocks n
-          bl = leaf-block n t l lim (u .group) group-ok
+          bl = leaf-block n t l (sit .limits-ok) (u .group) group-ok
 
           alone : (i : ℕ) → (i ≡ b .line → ⊥) → Has (b .rows .lines) i (leafOf (u .group)) → ⊥
           alone i q e = q (leaf-brings .lined .one i (b .line) (leafOf (u .group)) e (leaf-brings .has-it))
@@ -399,7 +440,7 @@ module _ (n t l hand x : ℕ) (ts : List Tracker) (r : Rows) (lim : limits n t l
       keeps-write0 = go (ℕ-discrete (u .value) 0) (lt-or-ge (lineOf (r .lines) l (leafOf (u .group))) l)
         where
           bl : leafOf (u .group) < blocks n
-          bl = leaf-block n t l lim (u .group) group-ok
+          bl = leaf-block n t l (sit .limits-ok) (u .group) group-ok
 
           new-long : length (newLeaf u) ≡ 64
           new-long = length-putW 4 (replicate 64 0) (byteOf (u .group)) (bytes 4 (u .value)) (length-bytes 4 (u .value)) ∙ length-replicate {A = ℕ} 64 0
@@ -407,8 +448,8 @@ module _ (n t l hand x : ℕ) (ts : List Tracker) (r : Rows) (lim : limits n t l
           go : Dec (u .value ≡ 0) → (lineOf (r .lines) l (leafOf (u .group)) < l) ⊎ (l ≤ lineOf (r .lines) l (leafOf (u .group))) → Keeps n l t x ts r (writeUnder0 l hand j u r)
           go (yes e) q = rw (write0-same l hand j u r e) (record {
             says = refl;
-            hand-lt = hl;
-            lined = gone v refl;
+            hand-lt = sit .hand-lt;
+            lined = gone (sit .lined) refl;
             tracked = idle-tracked;
             lines-long = simp length-set;
             bytes-long = refl;
@@ -419,25 +460,25 @@ module _ (n t l hand x : ℕ) (ts : List Tracker) (r : Rows) (lim : limits n t l
               let hi : Has (r .lines) i (leafOf (u .group)) = lineOf-has (r .lines) l (leafOf (u .group)) q in
               rw (write0-line l hand j u r e q) (record {
                 says = refl;
-                hand-lt = hl;
-                lined = stays h (goesTo u Set) refl refl (fill-lined v i (leafOf (u .group)) q (leaf-loose n ts v i (leafOf (u .group)) hi leaf-of-lt) bl small
-                    (λ y d f. d (v .one y i (leafOf (u .group)) f hi)) true);
+                hand-lt = sit .hand-lt;
+                lined = stays h (goesTo u Set) refl refl (fill-lined (sit .lined) i (leafOf (u .group)) q (leaf-loose n ts (sit .lined) i (leafOf (u .group)) hi leaf-of-lt) bl small
+                    (λ y d f. d (sit .lined .one y i (leafOf (u .group)) f hi)) true);
                 tracked = goes-tracked Set (same-map wr Set refl);
                 lines-long = simp length-set;
                 bytes-long = length-putW 64 (r .bytes) (64 * i) (newLeaf u) new-long;
                 memory-long = refl;
               })
           go (no e) (inr q) =
-              let p = place-loose r hand v few fit in
+              let p = place-loose r hand (sit .lined) few (sit .rows-fit) in
               rw (write0-place l hand j u r e q (p .0)) (record {
                 says = refl;
-                hand-lt = place-hand r hand v few fit hl;
-                lined = stays h (goesTo u Set) refl refl (fill-lined v (placeLine l hand (r .lines) (r .bytes)) (leafOf (u .group)) (p .0) (p .1) bl small
-                    (λ y d f. lineOf-none (r .lines) l (leafOf (u .group)) y q (low v y (leafOf (u .group)) f) f) true);
+                hand-lt = place-hand r hand (sit .lined) few (sit .rows-fit) (sit .hand-lt);
+                lined = stays h (goesTo u Set) refl refl (fill-lined (sit .lined) (placeLine l hand (r .lines) (r .bytes)) (leafOf (u .group)) (p .0) (p .1) bl small
+                    (λ y d f. lineOf-none (r .lines) l (leafOf (u .group)) y q (low (sit .lined) y (leafOf (u .group)) f) f) true);
                 tracked = goes-tracked Set (same-map wr Set refl);
                 lines-long = simp length-set;
                 bytes-long = length-putW 64 (r .bytes) (64 * placeLine l hand (r .lines) (r .bytes)) (newLeaf u) new-long;
-                memory-long = place-memory-length r hand v few fit;
+                memory-long = place-memory-length r hand (sit .lined) few (sit .rows-fit);
               })
 
       keeps-leafWrite : Keeps n l t x ts r (leafWrite l hand j u r)
@@ -451,11 +492,11 @@ module _ (n t l hand x : ℕ) (ts : List Tracker) (r : Rows) (lim : limits n t l
     unfolding finish
     keeps-finish bit =
         let m = mapBlock n (u .group) in
-        let ml : m < 16777215 = omega (arith, small, v .exists j m j-has) in
+        let ml : m < 16777215 = omega (arith, small, sit .lined .exists j m j-has) in
         record {
           says = refl;
-          hand-lt = hl;
-          lined = lets-go j (word m true 0) v j-has j-holder (used-word m true 0 ml (omega arith)) (blockOf-word m true 0 ml (omega arith)) (holder-word m true 0 ml (omega arith));
+          hand-lt = sit .hand-lt;
+          lined = lets-go j (word m true 0) (sit .lined) j-has j-holder (used-word m true 0 ml (omega arith)) (blockOf-word m true 0 ml (omega arith)) (holder-word m true 0 ml (omega arith));
           tracked = idle-tracked;
           lines-long = simp length-set;
           bytes-long = putBit-length (r .bytes) _ _ bit;
@@ -473,7 +514,7 @@ module _ (n t l hand x : ℕ) (ts : List Tracker) (r : Rows) (lim : limits n t l
     keeps-inLine p f = rw (inLine-is n l hand u r p j-lt) f
 
   pub keeps-byPhase : (p : Phase) → u .phase ≡ p → Keeps n l t x ts r (byPhase n l hand x u r p)
-  keeps-byPhase Idle e = absurd (not-both-ways (ap isIdleAt e) busy)
+  keeps-byPhase Idle e = absurd (not-both-ways (ap isIdleAt e) (sit .busy))
   keeps-byPhase Probe e = keeps-probe e
   keeps-byPhase Map e = keeps-map e
   keeps-byPhase Leaf e = keeps-inLine (ap holdsAt e) Leaf (keeps-leaf (ap holdsAt e))

@@ -1,17 +1,17 @@
 -- Lines that are whole, whatever holds them: no block has two lines, and a line names a holder exactly if it has the block that is held.
 -- Each change of one line that a step makes keeps them so.
 use mathlib.Core.Path.{_≡_, refl, sym, ap, _∙_, subst}
-use mathlib.Core.Bool.{Bool, true, false}
+use mathlib.Core.Bool.{true, false}
 use mathlib.Core.List.{List}
 use mathlib.Core.Logic.{_⊎_, inl, inr, ⊎-elim}
-use Prim.Native.Nat.{ℕ, suc, _+_, _-_, _*_, _<_, _≤_}
+use Prim.Native.Nat.{ℕ, suc, _+_, _-_, _<_, _≤_}
 use native.Mathlib.Omega.{arith}
 use native.Mathlib.Decide.{ℕ-discrete}
-use lib.ListN.{length, getD, set, length-set, List·getD-eq-default}
+use lib.ListN.{length, getD, set, length-set}
 use lib.Seq.{getD-set-same, getD-set-other}
 use Rattle.laws.proofs.Choice.{not-both-ways, true-or-false}
 use Rattle.laws.proofs.Splice.{lt-or-ge}
-use Rattle.laws.proofs.Scan.{first-≤, first-holds, first-before, first-is, first-none}
+use Rattle.laws.proofs.Scan.{first-holds, first-before, first-is}
 use Rattle.line.specs.Word.{used, blockOf, holder, has}
 use Rattle.line.specs.Find.{lineOf}
 use Rattle.line.proofs.Words.{has-block, has-used}

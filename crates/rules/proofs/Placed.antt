@@ -1,31 +1,29 @@
 -- A line to take always exists, since there are more lines than trackers; placing and bringing in keep the lines whole and every held line where it is.
-use mathlib.Core.Path.{_≡_, refl, sym, ap, _∙_, subst}
+use mathlib.Core.Path.{_≡_, refl, sym, ap, _∙_}
 use mathlib.Core.Bool.{Bool, true, false}
 use mathlib.Core.List.{List}
 use mathlib.Core.Logic.{_⊎_, inl, inr, ⊎-elim}
-use Prim.Native.Nat.{ℕ, zero, suc, _+_, _-_, _*_, _<_, _≤_}
+use Prim.Native.Nat.{ℕ, suc, _+_, _-_, _*_, _<_, _≤_}
 use native.Mathlib.Omega.{arith}
-use native.Mathlib.Decide.{ℕ-discrete}
-use lib.Dec.{eqb, ltb, leb}
-use lib.ListN.{length, getD, set, length-set, replicate, length-replicate}
-use borrow.Author.Tests.{lt-ltb, le-ltb, ltb-true, ltb-false, leb-true, leb-false, le-leb, lt-leb, eqb-true, eq-eqb}
+use lib.Dec.{leb}
+use lib.ListN.{length, getD, set, length-set, length-replicate}
+use borrow.Author.Tests.{lt-ltb, le-ltb, le-leb, lt-leb, eqb-true}
 use Rattle.laws.specs.Choice.{pick, both, no}
-use Rattle.laws.specs.Bytes.{part, putW, fits}
-use Rattle.laws.specs.Scan.{first}
-use Rattle.laws.proofs.Choice.{not-both-ways, true-or-false, both-left, both-right, both-true, no-true, no-false}
+use Rattle.laws.specs.Bytes.{putW, fits}
+use Rattle.laws.proofs.Choice.{true-or-false, both-right, no-true, no-false}
 use Rattle.laws.proofs.Splice.{lt-or-ge}
-use Rattle.laws.proofs.Scan.{first-≤, first-holds, first-before}
+use Rattle.laws.proofs.Scan.{first-holds, first-before}
 use Rattle.laws.proofs.Put.{length-part, length-putW}
 use Rattle.laws.proofs.Pigeon.{pigeon}
 use Rattle.geometry.specs.TagMemory.{blockPlace}
 use Rattle.block.specs.Block.{blockOr0}
-use Rattle.line.specs.Word.{used, blockOf, changed, holder, held, has, word}
+use Rattle.line.specs.Word.{used, blockOf, changed, holder, held, word}
 use Rattle.line.specs.Find.{lineOf, lowestFree, looseFrom, victim, after}
 use Rattle.rules.specs.State.{Rows}
 use Rattle.rules.specs.Place.{lineBytes, rowsFit, placeLine, placeHand, writtenBack, placeMemory, Brought, filled, withMemory, bringIn}
 use Rattle.line.proofs.Words.{blockOf-word, holder-word, not-used, used-word}
 use Rattle.rules.proofs.Words.{held-holder, holder-free, loose-holder}
-use Rattle.rules.proofs.Lined.{at, Has, Held, Lined, low, lineOf-is, lineOf-has, lineOf-none, loose-lined, has-here, has-other, at-other, holder-here}
+use Rattle.rules.proofs.Lined.{at, Has, Lined, low, lineOf-has, lineOf-none, loose-lined, has-here, at-other, holder-here}
 
 pub held-used : (w : ℕ) → 0 < holder w → used w ≡ true
 held-used w p = ⊎-elim (λ u. u) (λ u. absurd (let z : holder w ≡ 0 = ap holder (not-used w u) ∙ holder-free in omega arith)) (true-or-false (used w))

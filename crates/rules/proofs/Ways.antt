@@ -1,16 +1,16 @@
 -- A law for each way out of each rule of a step.
-use mathlib.Core.Path.{_≡_, refl}
-use mathlib.Core.Bool.{Bool, true, false}
+use mathlib.Core.Path.{_≡_}
+use mathlib.Core.Bool.{true, false}
 use mathlib.Core.List.{List}
 use Prim.Native.Nat.{ℕ, _+_, _<_, _≤_}
-use lib.Dec.{eqb, ltb}
+use lib.Dec.{ltb}
 use lib.ListN.{getD, set}
 use borrow.Author.Tests.{lt-ltb, le-ltb, eq-eqb, ne-eqb}
-use Rattle.laws.specs.Choice.{pick, both}
+use Rattle.laws.specs.Choice.{both}
 use Rattle.geometry.specs.TagMemory.{leafOf, byteOf, blockPlace}
 use Rattle.block.specs.Block.{putGroup, allZero}
 use Rattle.tracker.specs.declared.Phase.{Phase}
-use Rattle.tracker.specs.declared.Phase.the-variants.{Idle, Probe, Map, Leaf, Set, Clear}
+use Rattle.tracker.specs.declared.Phase.the-variants.{Map, Set, Clear}
 use Rattle.tracker.specs.declared.Tracker.{Tracker}
 use Rattle.tracker.specs.Answer.{read, done, same}
 use Rattle.line.specs.Word.{held, word}
@@ -18,7 +18,7 @@ use Rattle.line.specs.Find.{lineOf}
 use Rattle.rules.specs.State.{Rows, lengthsRight}
 use Rattle.rules.specs.Whole.{mapBlock}
 use Rattle.rules.specs.Place.{lineBytes, placeLine, placeHand, placeMemory, Brought, filled, withMemory, withLines, bringIn}
-use Rattle.rules.specs.Step.{Turned, ends, goes, waits, refuses, turnsOf, groupIn, bitIn, letGo, probe, holdsMap, onMap, map, leafRead, putIn, writeUnder1, writeUnder0, newLeaf, leafWrite, finish, holding, inLine, byPhase, fit, turnOf}
+use Rattle.rules.specs.Step.{ends, goes, waits, turnsOf, groupIn, bitIn, letGo, probe, holdsMap, onMap, map, leafRead, putIn, writeUnder1, writeUnder0, newLeaf, leafWrite, holding, inLine, byPhase, fit, turnOf}
 
 module _ (l hand : ℕ) (t : Tracker) (r : Rows) where
   pub probe-miss : l ≤ lineOf (r .lines) l (leafOf (t .group)) → probe l hand t r ≡ goes t Map hand r

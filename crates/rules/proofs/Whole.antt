@@ -3,27 +3,23 @@ use mathlib.Core.Path.{_≡_, refl, sym, ap, _∙_, subst}
 use mathlib.Core.Bool.{Bool, true, false}
 use mathlib.Core.List.{List}
 use mathlib.Core.Logic.{_⊎_, inl, inr, ⊎-elim}
-use Prim.Native.Nat.{ℕ, zero, suc, _+_, _-_, _*_, _/_, _<_, _≤_}
-use native.Mathlib.Nat.{eq-or-lt-of-le, le-of-suc-le-suc, not-suc-le-zero}
+use Prim.Native.Nat.{ℕ, suc, _+_, _-_, _<_, _≤_}
 use native.Mathlib.Omega.{arith}
-use native.Mathlib.Decide.{ℕ-discrete}
 use lib.Dec.{eqb, ltb, leb}
-use lib.ListN.{length, getD, set, List·getD-eq-default}
-use borrow.Author.Tests.{lt-ltb, le-ltb, ltb-true, ltb-false, leb-true, leb-false, le-leb, lt-leb, eqb-true, eq-eqb, ne-eqb, eqb-false}
-use Rattle.tracker.proofs.Phases.{when, idle-loose, holds-busy}
-use Rattle.geometry.specs.TagMemory.{groups}
+use lib.ListN.{length, getD, List·getD-eq-default}
+use borrow.Author.Tests.{lt-ltb, ltb-true, leb-true, le-leb, eqb-true, eq-eqb}
+use Rattle.tracker.proofs.Phases.{when}
+use Rattle.geometry.specs.TagMemory.{groups, mostLeaves, mostTrackers, mostLines, inLimits, blocks}
 use Rattle.laws.specs.Choice.{pick, both, implies, no}
-use Rattle.laws.specs.Scan.{all, first}
-use Rattle.laws.proofs.Choice.{not-both-ways, true-or-false, both-left, both-right, both-true, implies-true, implied, no-true, no-false}
+use Rattle.laws.specs.Scan.{all}
+use Rattle.laws.proofs.Choice.{not-both-ways, true-or-false, both-left, both-right, both-true, implies-true, implied, no-true}
 use Rattle.laws.proofs.Splice.{lt-or-ge}
-use Rattle.laws.proofs.Scan.{all-at, all-is, first-≤, first-holds, first-before}
-use Rattle.geometry.specs.TagMemory.{inLimits, blocks, mapBlocks, leafOf, mapBlockOf}
+use Rattle.laws.proofs.Scan.{all-at, all-is}
 use Rattle.tracker.specs.declared.Phase.{Phase}
-use Rattle.tracker.specs.declared.Phase.the-variants.{Idle, Probe, Map, Leaf, Set, Clear}
 use Rattle.tracker.specs.declared.Tracker.{Tracker}
 use Rattle.tracker.specs.Tracker.{idle, isIdle, isIdleAt, holdsAt}
-use Rattle.line.specs.Word.{used, blockOf, holder, held, has}
-use Rattle.line.specs.Find.{lineOf, lowestFree, looseFrom, victim, after}
+use Rattle.line.specs.Word.{used, blockOf, holder, held}
+use Rattle.line.specs.Find.{lineOf}
 use Rattle.rules.specs.State.{State, trackerAt}
 use Rattle.rules.specs.Whole.{limits, mapBlock, holds, lineWhole, phaseWhole, trackerWhole, whole}
 use Rattle.line.proofs.Words.{free-used}
@@ -56,7 +52,7 @@ module _ (n t l : ℕ) (h : limits n t l ≡ true) where
   unfolding inLimits
   n-least = leb-true _ _ (both-left _ _ inLimits-of)
 
-  pub n-most : n ≤ 262144
+  pub n-most : n ≤ mostLeaves
   unfolding inLimits
   n-most = leb-true _ _ (both-right _ _ inLimits-of)
 
@@ -64,7 +60,7 @@ module _ (n t l : ℕ) (h : limits n t l ≡ true) where
   unfolding limits
   t-least = leb-true _ _ (both-left _ _ (both-left _ _ (both-right _ _ h)))
 
-  pub t-most : t ≤ 8
+  pub t-most : t ≤ mostTrackers
   unfolding limits
   t-most = leb-true _ _ (both-right _ _ (both-left _ _ (both-right _ _ h)))
 
@@ -72,7 +68,7 @@ module _ (n t l : ℕ) (h : limits n t l ≡ true) where
   unfolding limits
   l-least = leb-true _ _ (both-left _ _ (both-right _ _ (both-right _ _ h)))
 
-  pub l-most : l ≤ 64
+  pub l-most : l ≤ mostLines
   unfolding limits
   l-most = leb-true _ _ (both-right _ _ (both-right _ _ (both-right _ _ h)))
 

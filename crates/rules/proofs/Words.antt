@@ -1,9 +1,8 @@
 -- What a word says of its holder, and of a line that changes hands, as the laws of whole states need it; the other laws of words are line's.
 use mathlib.Core.Path.{_≡_, refl}
-use mathlib.Core.Bool.{Bool, true, false}
+use mathlib.Core.Bool.{true, false}
 use Prim.Native.Nat.{ℕ, _<_, _≤_}
 use native.Mathlib.Omega.{arith}
-use lib.Dec.{eqb, ltb}
 use borrow.Author.Tests.{lt-ltb, ltb-true, ltb-false, eq-eqb}
 use Rattle.laws.proofs.Choice.{both-true}
 use Rattle.line.specs.Word.{used, blockOf, changed, holder, held, has, heldBy}

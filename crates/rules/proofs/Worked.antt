@@ -1,21 +1,20 @@
 -- Case R of 01 and other runs that meet each branch of a step, computed through the rules on real bytes: a wrong rule fails at a value.
 use mathlib.Core.Path.{_≡_, refl}
-use mathlib.Core.Bool.{Bool, true, false}
+use mathlib.Core.Bool.{true, false}
 use mathlib.Core.List.{List, [], _∷_, _++_}
 use Prim.Native.Nat.{ℕ}
 use lib.ListN.{replicate}
-use Rattle.geometry.specs.TagMemory.{leafOf, byteOf, groups, mapBlockOf, mapByteOf, mapBitOf, mapBlocks}
+use Rattle.geometry.specs.TagMemory.{leafOf, byteOf, groups, mapBlockOf, mapByteOf, mapBitOf, mapBlocks, inLimits}
 use Rattle.laws.specs.Refusal.{refusal, unless}
 use Rattle.laws.specs.Choice.{both, implies, no}
 use Rattle.laws.specs.Bytes.{part, splice, fits, putW, value, bytes, numberAt}
 use Rattle.laws.specs.Scan.{first, all}
 use Rattle.laws.specs.Bits.{bitOf, withBit}
-use Rattle.geometry.specs.TagMemory.{inLimits}
 use Rattle.block.specs.Block.{bitAt, putBit, allZero, blockOr0}
 use Rattle.memory.specs.PlainReading.{leafBit, plainGroup}
 use Rattle.memory.specs.True.{trueAt, isTrue, clearedMap}
 use Rattle.tracker.specs.Tracker.{readOf, writeOf}
-use Rattle.tracker.specs.Answer.{Said, ok, wait, moved, read, done, same, no as says-no}
+use Rattle.tracker.specs.Answer.{ok, wait, moved, read, done, same, no as says-no}
 use Rattle.line.specs.Word.{used, blockOf, changed, holder, held, has, word, heldBy, cleaned}
 use Rattle.line.specs.Find.{lineOf, lowestFree, looseFrom, victim, after}
 use Rattle.rules.specs.State.{lengthsRight}

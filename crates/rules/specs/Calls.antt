@@ -1,15 +1,13 @@
 -- 01 "What is refused": fresh, open, issue, step, drain and show, each with its refusals in order.
 use mathlib.Core.List.{List, [], _∷_, _++_}
 use mathlib.Core.Bool.{Bool, not}
-use Prim.Native.Nat.{ℕ, _+_, _*_}
+use Prim.Native.Nat.{ℕ, _+_}
 use lib.Dec.{eqb, ltb}
-use lib.ListN.{length, getD, set}
-use Rattle.geometry.specs.TagMemory.{groups}
+use lib.ListN.{set}
+use Rattle.geometry.specs.TagMemory.{groups, mapBlockOf, mapByteOf, mapBitOf, blockPlace}
 use Rattle.laws.specs.Choice.{pick}
 use Rattle.laws.specs.Refusal.{Tests, refusal, unless}
 use Rattle.laws.specs.Scan.{all}
-use Rattle.laws.specs.Bytes.{part}
-use Rattle.geometry.specs.TagMemory.{mapBlockOf, mapByteOf, mapBitOf, blockPlace}
 use Rattle.block.specs.Block.{bitAt}
 use Rattle.memory.specs.PlainReading.{leafBit}
 use Rattle.memory.specs.True.{isTrue, clearedMap, blockAt}
@@ -18,7 +16,7 @@ use Rattle.tracker.specs.declared.Tracker.{Tracker}
 use Rattle.tracker.specs.Tracker.{issued, isIdle}
 use Rattle.tracker.specs.Answer.{Said, ok, no}
 use Rattle.line.specs.Find.{lineOf}
-use Rattle.rules.specs.State.{State, Rows, trackerAt, lengthsRight, begun, zeroState}
+use Rattle.rules.specs.State.{State, trackerAt, lengthsRight, begun, zeroState}
 use Rattle.rules.specs.Whole.{limits, whole}
 use Rattle.rules.specs.Place.{lineBytes, drained}
 use Rattle.rules.specs.Step.{Turned, turnOf}

@@ -5,7 +5,7 @@ use Prim.Native.Nat.{ℕ, _*_}
 use lib.Dec.{eqb}
 use lib.ListN.{length, getD, replicate}
 use Rattle.laws.specs.Choice.{both}
-use Rattle.geometry.specs.TagMemory.{memoryLength}
+use Rattle.geometry.specs.TagMemory.{memoryLength, mostTrackers, mostLines}
 use Rattle.tracker.specs.declared.Tracker.{Tracker}
 use Rattle.tracker.specs.Tracker.{idle}
 
@@ -32,7 +32,7 @@ lengthsRight n l bytes memory = both (eqb (length bytes) (64 * l)) (eqb (length 
 
 -- "After fresh and open every line is free, every tracker idle, and their other fields zero"; "The hand starts at 0."
 abbrev pub begun : ℕ → ℕ → ℕ → State
-begun n t l = record { n = n; t = t; l = l; hand = 0; lines = replicate 64 0; trackers = replicate 8 idle }
+begun n t l = record { n = n; t = t; l = l; hand = 0; lines = replicate mostLines 0; trackers = replicate mostTrackers idle }
 
 -- "refused, they return one that is zero throughout"
 abbrev pub zeroState : State

@@ -1,19 +1,18 @@
 -- 01 "One step of a tracker", rule by rule. x is the tracker's number, t the tracker as it is handed in, r the rows.
 use mathlib.Core.List.{List}
-use mathlib.Core.Bool.{Bool, true, false}
-use Prim.Native.Nat.{ℕ, _+_, _*_}
+use mathlib.Core.Bool.{Bool, true}
+use Prim.Native.Nat.{ℕ, _+_}
 use lib.Dec.{eqb, ltb, leb}
 use lib.ListN.{length, getD, set, replicate}
-use Rattle.geometry.specs.TagMemory.{groups}
+use Rattle.geometry.specs.TagMemory.{groups, inLimits, leafOf, byteOf, mapByteOf, mapBitOf, blockPlace}
 use Rattle.laws.specs.Choice.{pick, both}
-use Rattle.geometry.specs.TagMemory.{inLimits, leafOf, byteOf, mapByteOf, mapBitOf, memoryLength, blockPlace}
 use Rattle.block.specs.Block.{groupAt, putGroup, bitAt, putBit, allZero}
 use Rattle.tracker.specs.declared.Phase.{Phase}
 use Rattle.tracker.specs.declared.Phase.the-variants.{Idle, Probe, Map, Leaf, Set, Clear}
 use Rattle.tracker.specs.declared.Tracker.{Tracker}
 use Rattle.tracker.specs.Tracker.{idle, tick, goesTo, counted}
 use Rattle.tracker.specs.Answer.{Said, wait, moved, read, done, same, no}
-use Rattle.line.specs.Word.{held, heldBy, word}
+use Rattle.line.specs.Word.{held, heldBy, word, holders}
 use Rattle.line.specs.Find.{lineOf}
 use Rattle.rules.specs.State.{Rows, lengthsRight}
 use Rattle.rules.specs.Whole.{mapBlock}
@@ -172,7 +171,7 @@ byPhase n l hand x t r Clear = inLine n l hand t r Clear
 
 -- what a step can rely on in any state: there are L lines, the tracker's group exists, its number fits a line's word
 unfoldable pub fit : ℕ → ℕ → ℕ → Tracker → Rows → Bool
-fit n l x t r = both (both (inLimits n) (leb l (length (r .lines)))) (both (ltb (t .group) (groups n)) (ltb x 127))
+fit n l x t r = both (both (inLimits n) (leb l (length (r .lines)))) (both (ltb (t .group) (groups n)) (ltb x holders))
 
 -- one step of tracker x, which is t
 unfoldable pub turnOf : ℕ → ℕ → ℕ → ℕ → Tracker → Rows → Turned

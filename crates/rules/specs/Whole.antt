@@ -1,24 +1,22 @@
 -- 01 "A state is whole when ..", in its order.
-use mathlib.Core.List.{List}
-use mathlib.Core.Bool.{Bool, true, false}
-use Prim.Native.Nat.{ℕ, _+_, _-_, _*_}
+use mathlib.Core.Bool.{Bool, true}
+use Prim.Native.Nat.{ℕ, _+_, _-_}
 use lib.Dec.{eqb, ltb, leb}
 use lib.ListN.{length, getD}
-use Rattle.geometry.specs.TagMemory.{groups}
+use Rattle.geometry.specs.TagMemory.{groups, mostTrackers, mostLines, inLimits, leafOf, mapBlockOf, blocks}
 use Rattle.laws.specs.Choice.{both, implies, no}
 use Rattle.laws.specs.Scan.{all}
-use Rattle.geometry.specs.TagMemory.{inLimits, leafOf, mapBlockOf, blocks}
 use Rattle.tracker.specs.declared.Phase.{Phase}
 use Rattle.tracker.specs.declared.Phase.the-variants.{Idle, Probe, Map, Leaf, Set, Clear}
 use Rattle.tracker.specs.declared.Tracker.{Tracker}
-use Rattle.tracker.specs.Tracker.{isIdle, isIdleAt, holdsAt}
+use Rattle.tracker.specs.Tracker.{isIdle, holdsAt}
 use Rattle.line.specs.Word.{used, blockOf, holder, held}
 use Rattle.line.specs.Find.{lineOf}
 use Rattle.rules.specs.State.{State, trackerAt}
 
 -- "There are T trackers, 1 to 8, and L lines, T + 1 to 64."
 unfoldable pub limits : ℕ → ℕ → ℕ → Bool
-limits n t l = both (inLimits n) (both (both (leb 1 t) (leb t 8)) (both (leb (t + 1) l) (leb l 64)))
+limits n t l = both (inLimits n) (both (both (leb 1 t) (leb t mostTrackers)) (both (leb (t + 1) l) (leb l mostLines)))
 
 -- the map block of a group, in a memory of n leaves
 abbrev pub mapBlock : ℕ → ℕ → ℕ

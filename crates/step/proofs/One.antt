@@ -8,13 +8,13 @@ use Rattle.rules.specs.State.{Rows, lengthsRight}
 use Rattle.rules.specs.Step.{turnOf}
 use Rattle.lines.specs.Lines.{rows}
 use Rattle.turned.specs.declared.Turned as left
-use Rattle.turned.specs.Steps.{Steps}
+use Rattle.turned.specs.Steps.{turned}
 use Rattle.turned.proofs.One.{turned-one, rows-one}
 
 pub turn-one : (n l hand x : ℕ) (t : Tracker) (was : Rows) (r s : left.Turned) (ls bs m ls′ bs′ m′ : List ℕ)
-    → Steps (turnOf n l hand x t was) (r .answer) (r .hand) (r .tracker) ls bs m
-    → Steps (turnOf n l hand x t was) (s .answer) (s .hand) (s .tracker) ls′ bs′ m′ → (r ≡ s) × (rows ls bs m ≡ rows ls′ bs′ m′)
-turn-one n l hand x t was r s ls bs m ls′ bs′ m′ p q = (turned-one _ r s _ _ _ _ _ _ p q, rows-one _ r s _ _ _ _ _ _ p q)
+    → turned r ls bs m ≡ turnOf n l hand x t was
+    → turned s ls′ bs′ m′ ≡ turnOf n l hand x t was → (r ≡ s) × (rows ls bs m ≡ rows ls′ bs′ m′)
+turn-one n l hand x t was r s ls bs m ls′ bs′ m′ p q = (turned-one r s _ _ _ _ _ _ p q, rows-one r s _ _ _ _ _ _ p q)
 
 pub lengths-right-one : (n l : ℕ) (bytes memory : List ℕ) {r s : Bool} → r ≡ lengthsRight n l bytes memory → s ≡ lengthsRight n l bytes memory → r ≡ s
 lengths-right-one n l bytes memory p q = p ∙ sym q

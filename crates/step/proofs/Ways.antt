@@ -1,5 +1,5 @@
 -- A law for each way out of Map, Finish and a step, from what the code has tested: the rule is then what one of its ends says.
-use mathlib.Core.Path.{_≡_, refl, sym, ap, _∙_}
+use mathlib.Core.Path.{_≡_, refl, sym, _∙_}
 use mathlib.Core.List.{List}
 use mathlib.Core.Bool.{Bool, true, false}
 use Prim.Native.Nat.{ℕ, _+_, _*_, _≤_, _<_}
@@ -7,24 +7,23 @@ use native.Mathlib.Omega.{arith}
 use lib.Dec.{eqb, ltb, leb}
 use lib.ListN.{length, getD, set}
 use borrow.Author.Tests.{lt-ltb, le-ltb, le-leb, lt-leb, eq-eqb, ne-eqb, leb-true, ltb-true, eqb-true}
-use Rattle.geometry.specs.TagMemory.{groups}
+use Rattle.geometry.specs.TagMemory.{groups, mostLeaves, inLimits, leafOf, mapByteOf, mapBitOf, memoryLength}
 use Rattle.laws.specs.Choice.{pick, both}
 use Rattle.laws.proofs.Choice.{both-left, both-right, both-false-left, both-false-right}
-use Rattle.geometry.specs.TagMemory.{inLimits, leafOf, mapByteOf, mapBitOf, memoryLength}
 use Rattle.geometry.proofs.Limits.{inLimits-most}
 use Rattle.block.specs.Block.{putBit}
 use Rattle.tracker.specs.declared.Phase.{Phase}
 use Rattle.tracker.specs.declared.Phase.the-variants.{Probe, Leaf, Set, Clear}
 use Rattle.tracker.specs.declared.Tracker.{Tracker}
 use Rattle.tracker.specs.Answer.{read, done, same}
-use Rattle.line.specs.Word.{held, heldBy, word}
+use Rattle.line.specs.Word.{held, heldBy, word, holders}
 use Rattle.line.specs.Find.{lineOf}
 use Rattle.rules.specs.State.{Rows, lengthsRight}
 use Rattle.rules.specs.Whole.{mapBlock}
 use Rattle.rules.specs.Place.{rowsFit, Brought, bringIn}
 use Rattle.rules.specs.Step.{ends, goes, waits, refuses, turnsOf, bitIn, holdsMap, onMap, map, leafWrite, finish, inLine, byPhase, fit, turnOf}
-use Rattle.lines.specs.Lines.{rows, fetched, Gives}
-use Rattle.lines.proofs.Ways.{given, bringIn-fetched, fetched-same}
+use Rattle.lines.specs.Lines.{rows, fetched}
+use Rattle.lines.proofs.Ways.{left, line-is, rows-are, bringIn-fetched, fetched-same}
 use Rattle.leaf.specs.Leaf.{probeOn, leafOn}
 use Rattle.leaf.proofs.Ways.{probeOn-fit}
 
@@ -62,15 +61,15 @@ module _ (n l hand x i b : ℕ) (t : Tracker) (lines bytes memory : List ℕ) (e
   unfolding map both bringIn
   map-lined h w = rw (← eb, ← e, lt-ltb _ _ h, w, lt-ltb _ _ h) refl
 
-  module _ (h : l ≤ i) (at next : ℕ) (ls bs m : List ℕ) (g : Gives (fetched l hand b (rows lines bytes memory)) at next ls bs m) where
+  module _ (h : l ≤ i) (at next : ℕ) (ls bs m : List ℕ) (g : left at next ls bs m ≡ fetched l hand b (rows lines bytes memory)) where
     brought : bringIn l hand (mapBlock n (t .group)) (rows lines bytes memory) ≡ (record { line = at; hand = next; rows = rows ls bs m })
-    brought = rw (← eb, bringIn-fetched l hand lines bytes memory b (omega arith)) (given g)
+    brought = rw (← eb, bringIn-fetched l hand lines bytes memory b (omega arith)) (sym g)
 
     pub map-none : l ≤ at → map n l hand x t (rows lines bytes memory) ≡ refuses 4 t hand (rows ls bs m)
     unfolding map both
     map-none o =
-        let f : fetched l hand b (rows lines bytes memory) .rows ≡ rows lines bytes memory = fetched-same l hand b (rows lines bytes memory) (omega (arith, g .line)) in
-        let k : rows ls bs m ≡ rows lines bytes memory = ap (λ (y : Brought). y .rows) (sym (given g)) ∙ f in
+        let f : fetched l hand b (rows lines bytes memory) .rows ≡ rows lines bytes memory = fetched-same l hand b (rows lines bytes memory) (omega (arith, line-is g)) in
+        let k : rows ls bs m ≡ rows lines bytes memory = rows-are g ∙ f in
         rw (brought, ← eb, ← e, le-ltb _ _ h, le-ltb _ _ o, k) refl
 
     pub map-fetched : at < l → map n l hand x t (rows lines bytes memory) ≡ onMap x t (record { line = at; hand = next; rows = rows ls bs m })
@@ -115,16 +114,16 @@ module _ (n l x : ℕ) (t : Tracker) (r : Rows) where
   unfolding fit
   fit-lines h = sym (both-false-left _ _ (both-false-right (inLimits n) _ (lt-leb _ _ h)))
 
-  pub fit-group : 16 * n ≤ t .group → false ≡ fit n l x t r
+  pub fit-group : groups n ≤ t .group → false ≡ fit n l x t r
   unfolding fit groups
   fit-group h = sym (both-false-right (both (inLimits n) (leb l (length (r .lines)))) _ (both-false-left _ _ (le-ltb _ _ h)))
 
-  pub fit-rest : inLimits n ≡ true → l ≤ length (r .lines) → t .group < 16 * n → ltb x 127 ≡ fit n l x t r
+  pub fit-rest : inLimits n ≡ true → l ≤ length (r .lines) → t .group < groups n → ltb x holders ≡ fit n l x t r
   unfolding fit both groups
   fit-rest e h g = rw (e, le-leb _ _ h, lt-ltb _ _ g) refl
 
   module _ (f : fit n l x t r ≡ true) where
-    pub fit-n : n ≤ 262144
+    pub fit-n : n ≤ mostLeaves
     unfolding fit
     fit-n = inLimits-most n (both-left _ _ (both-left _ _ f))
 
@@ -132,9 +131,9 @@ module _ (n l x : ℕ) (t : Tracker) (r : Rows) where
     unfolding fit
     fit-l = leb-true _ _ (both-right (inLimits n) _ (both-left _ _ f))
 
-    pub fit-x : x < 127
+    pub fit-x : x < holders
     unfolding fit groups
-    fit-x = ltb-true _ _ (both-right (ltb (t .group) (16 * n)) _ (both-right (both (inLimits n) (leb l (length (r .lines)))) _ f))
+    fit-x = ltb-true _ _ (both-right (ltb (t .group) (groups n)) _ (both-right (both (inLimits n) (leb l (length (r .lines)))) _ f))
 
 module _ (n l : ℕ) (bytes memory : List ℕ) where
   pub lengths-bytes : eqb (length bytes) (64 * l) ≡ false → false ≡ lengthsRight n l bytes memory

@@ -9,16 +9,18 @@ ghost use mathlib.Core.List.{List};
 ghost use Prim.Native.Nat.{ℕ, _+_, _*_, _≤_, _<_};
 ghost use lib.ListN.{length};
 ghost use Rattle.laws.specs.Choice.{pick};
+ghost use Rattle.geometry.specs.TagMemory.{mostLeaves};
+ghost use Rattle.line.specs.Word.{holders};
 ghost use Rattle.tracker.specs.declared.Phase.the-variants.{Leaf, Set, Clear};
 ghost use Rattle.rules.specs.State.{lengthsRight};
 ghost use Rattle.rules.specs.Whole.{mapBlock};
 ghost use Rattle.rules.specs.Step.{bitIn, holdsMap, onMap, map, finish, inLine, byPhase, fit, turnOf};
 ghost use Rattle.lines.specs.Lines.{rows};
-ghost use Rattle.turned.specs.Steps.{Steps};
+ghost use Rattle.turned.specs.Steps.{turned};
 
 // The map block of group g.
 fn map_block(n: u32, g: u32) -> u32
-    requires { ⌜ n ≤ 262144 ⌝ }
+    requires { ⌜ n ≤ mostLeaves ⌝ }
     ensures { λ r. ⌜ r ≡ mapBlock n g ⌝ }
 {
     n + Geometry::map_block_of(Geometry::leaf_of(g))
@@ -39,8 +41,8 @@ fn bit_in(bytes: &[u8], i: usize, g: u32) -> u8
 
 // Line i's block is held by tracker x, which goes on to Leaf.
 fn holds_map(x: u32, i: usize, hand: usize, t: Tracker, lines: &mut [u32]) -> Turned
-    requires { ⌜ (x < 127) × (i < length (now lines)) ⌝ }
-    ensures { λ r. ⌜ ((bs m : List ℕ) → Steps (holdsMap x t (record { line = i; hand = hand; rows = rows (now (lines .entry)) bs m })) (r .answer) (r .hand) (r .tracker) (now (lines .exit)) bs m) ⌝ }
+    requires { ⌜ (x < holders) × (i < length (now lines)) ⌝ }
+    ensures { λ r. ⌜ ((bs m : List ℕ) → turned r (now (lines .exit)) bs m ≡ holdsMap x t (record { line = i; hand = hand; rows = rows (now (lines .entry)) bs m })) ⌝ }
 {
     lines[i] = line::held_by(lines[i], x + 1);
     turned::goes(hand, t, Phase::Leaf)
@@ -48,8 +50,8 @@ fn holds_map(x: u32, i: usize, hand: usize, t: Tracker, lines: &mut [u32]) -> Tu
 
 // Map, with the map block in line i. Bit 0: a read ends with 0; a write of 0 ends "same". Otherwise hold the map block, on to Leaf.
 fn on_map(x: u32, i: usize, hand: usize, t: Tracker, lines: &mut [u32], bytes: &[u8]) -> Turned
-    requires { ⌜ (x < 127) × (i < length (now lines)) × (64 * i + 64 ≤ length (now bytes)) ⌝ }
-    ensures { λ r. ⌜ ((m : List ℕ) → Steps (onMap x t (record { line = i; hand = hand; rows = rows (now (lines .entry)) (now (bytes .entry)) m })) (r .answer) (r .hand) (r .tracker) (now (lines .exit)) (now (bytes .entry)) m) ⌝ }
+    requires { ⌜ (x < holders) × (i < length (now lines)) × (64 * i + 64 ≤ length (now bytes)) ⌝ }
+    ensures { λ r. ⌜ ((m : List ℕ) → turned r (now (lines .exit)) (now (bytes .entry)) m ≡ onMap x t (record { line = i; hand = hand; rows = rows (now (lines .entry)) (now (bytes .entry)) m })) ⌝ }
 {
     if bit_in(bytes, i, t.group) != 0 {
         return holds_map(x, i, hand, t, lines);
@@ -74,8 +76,8 @@ fn map(
     bytes: &mut [u8],
     memory: &mut [u8],
 ) -> Turned
-    requires { ⌜ (n ≤ 262144) × (x < 127) × (l ≤ length (now lines)) × (length (now bytes) ≡ 64 * l) ⌝ }
-    ensures { λ r. ⌜ Steps (map n l hand x t (rows (now (lines .entry)) (now (bytes .entry)) (now (memory .entry)))) (r .answer) (r .hand) (r .tracker) (now (lines .exit)) (now (bytes .exit)) (now (memory .exit)) ⌝ }
+    requires { ⌜ (n ≤ mostLeaves) × (x < holders) × (l ≤ length (now lines)) × (length (now bytes) ≡ 64 * l) ⌝ }
+    ensures { λ r. ⌜ turned r (now (lines .exit)) (now (bytes .exit)) (now (memory .exit)) ≡ map n l hand x t (rows (now (lines .entry)) (now (bytes .entry)) (now (memory .entry))) ⌝ }
 {
     let b = map_block(n, t.group);
     let i = line::line_of(lines, l, b);
@@ -103,8 +105,8 @@ fn at_leaf(
     bytes: &mut [u8],
     memory: &mut [u8],
 ) -> Turned
-    requires { ⌜ (n ≤ 262144) × (l ≤ length (now lines)) × (length (now bytes) ≡ 64 * l) ⌝ }
-    ensures { λ r. ⌜ Steps (inLine n l hand t (rows (now (lines .entry)) (now (bytes .entry)) (now (memory .entry))) Leaf) (r .answer) (r .hand) (r .tracker) (now (lines .exit)) (now (bytes .exit)) (now (memory .exit)) ⌝ }
+    requires { ⌜ (n ≤ mostLeaves) × (l ≤ length (now lines)) × (length (now bytes) ≡ 64 * l) ⌝ }
+    ensures { λ r. ⌜ turned r (now (lines .exit)) (now (bytes .exit)) (now (memory .exit)) ≡ inLine n l hand t (rows (now (lines .entry)) (now (bytes .entry)) (now (memory .entry))) Leaf ⌝ }
 {
     let j = line::line_of(lines, l, map_block(n, t.group));
     if l <= j {
@@ -124,8 +126,8 @@ fn finish(
     lines: &mut [u32],
     bytes: &mut [u8],
 ) -> Turned
-    requires { ⌜ (n ≤ 262144) × (j < length (now lines)) × (64 * j + 64 ≤ length (now bytes)) ⌝ }
-    ensures { λ r. ⌜ ((m : List ℕ) → Steps (finish n hand j (pick set 1 0) t (rows (now (lines .entry)) (now (bytes .entry)) m)) (r .answer) (r .hand) (r .tracker) (now (lines .exit)) (now (bytes .exit)) m) ⌝ }
+    requires { ⌜ (n ≤ mostLeaves) × (j < length (now lines)) × (64 * j + 64 ≤ length (now bytes)) ⌝ }
+    ensures { λ r. ⌜ ((m : List ℕ) → turned r (now (lines .exit)) (now (bytes .exit)) m ≡ finish n hand j (pick set 1 0) t (rows (now (lines .entry)) (now (bytes .entry)) m)) ⌝ }
 {
     let k = Geometry::leaf_of(t.group);
     block::put_bit(
@@ -148,8 +150,8 @@ fn finishes(
     lines: &mut [u32],
     bytes: &mut [u8],
 ) -> Turned
-    requires { ⌜ (n ≤ 262144) × (l ≤ length (now lines)) × (length (now bytes) ≡ 64 * l) ⌝ }
-    ensures { λ r. ⌜ ((m : List ℕ) → Steps (inLine n l hand t (rows (now (lines .entry)) (now (bytes .entry)) m) (pick set Set Clear)) (r .answer) (r .hand) (r .tracker) (now (lines .exit)) (now (bytes .exit)) m) ⌝ }
+    requires { ⌜ (n ≤ mostLeaves) × (l ≤ length (now lines)) × (length (now bytes) ≡ 64 * l) ⌝ }
+    ensures { λ r. ⌜ ((m : List ℕ) → turned r (now (lines .exit)) (now (bytes .exit)) m ≡ inLine n l hand t (rows (now (lines .entry)) (now (bytes .entry)) m) (pick set Set Clear)) ⌝ }
 {
     let j = line::line_of(lines, l, map_block(n, t.group));
     if l <= j {
@@ -169,8 +171,8 @@ fn by_phase(
     bytes: &mut [u8],
     memory: &mut [u8],
 ) -> Turned
-    requires { ⌜ (n ≤ 262144) × (x < 127) × (l ≤ length (now lines)) × (length (now bytes) ≡ 64 * l) ⌝ }
-    ensures { λ r. ⌜ Steps (byPhase n l hand x t (rows (now (lines .entry)) (now (bytes .entry)) (now (memory .entry))) (t .phase)) (r .answer) (r .hand) (r .tracker) (now (lines .exit)) (now (bytes .exit)) (now (memory .exit)) ⌝ }
+    requires { ⌜ (n ≤ mostLeaves) × (x < holders) × (l ≤ length (now lines)) × (length (now bytes) ≡ 64 * l) ⌝ }
+    ensures { λ r. ⌜ turned r (now (lines .exit)) (now (bytes .exit)) (now (memory .exit)) ≡ byPhase n l hand x t (rows (now (lines .entry)) (now (bytes .entry)) (now (memory .entry))) (t .phase) ⌝ }
 {
     let phase = t.phase;
     match phase {
@@ -193,10 +195,10 @@ fn fit(n: u32, l: usize, x: u32, t: Tracker, lines: &[u32]) -> bool
     if lines.len() < l {
         return false;
     }
-    if Geometry::GROUPS as u64 * (n as u64) <= t.group as u64 {
+    if Geometry::groups(n) <= t.group as u64 {
         return false;
     }
-    x < 127
+    x < line::HOLDERS
 }
 
 // The line bytes and memory have their lengths.
@@ -220,7 +222,7 @@ pub fn turn(
     bytes: &mut [u8],
     memory: &mut [u8],
 ) -> Turned
-    ensures { λ r. ⌜ Steps (turnOf n l hand x t (rows (now (lines .entry)) (now (bytes .entry)) (now (memory .entry)))) (r .answer) (r .hand) (r .tracker) (now (lines .exit)) (now (bytes .exit)) (now (memory .exit)) ⌝ }
+    ensures { λ r. ⌜ turned r (now (lines .exit)) (now (bytes .exit)) (now (memory .exit)) ≡ turnOf n l hand x t (rows (now (lines .entry)) (now (bytes .entry)) (now (memory .entry))) ⌝ }
 {
     if !fit(n, l, x, t, lines) {
         return turned::refuses(4, hand, t);

@@ -58,8 +58,11 @@ issued a =
     record { phase = firstPhase (a .bottom); write = a .write; bottom = a .bottom; group = a .group; value = pick (a .write) (a .value) 0; turns = 0 }
 
 -- "its turns: steps given since the issue, waits included; it stays at 65,535 once there"
+abbrev pub mostTurns : ℕ
+mostTurns = 65535
+
 abbrev pub tick : ℕ → ℕ
-tick k = min (suc k) 65535
+tick k = min (suc k) mostTurns
 
 -- the tracker on its way to a phase
 abbrev pub goesTo : Tracker → Phase → Tracker

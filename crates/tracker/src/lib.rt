@@ -43,11 +43,18 @@ pub enum Answer {
     No(u8),
 }
 
-// One turn more; it stays at 65,535 once there.
+// The most turns that are counted.
+pub const MOST_TURNS: u16 = 65535;
+
+// One turn more; it stays at the most once there.
 pub fn one_more(turns: u16) -> u16
     ensures { λ r. ⌜ r ≡ tick turns ⌝ }
 {
-    if turns < 65535 { turns + 1 } else { 65535 }
+    if turns < MOST_TURNS {
+        turns + 1
+    } else {
+        MOST_TURNS
+    }
 }
 
 // Where an access begins.

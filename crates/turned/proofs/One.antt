@@ -1,14 +1,15 @@
 -- Two results that a promise allows for one input are equal: the answers say the same, and all else is the rule's.
-use mathlib.Core.Path.{_≡_, refl, sym, ap, _∙_}
+use mathlib.Core.Path.{_≡_, sym, ap, _∙_}
 use mathlib.Core.List.{List, []}
 use Prim.Native.Nat.{ℕ}
 use Rattle.tracker.specs.declared.Tracker.{Tracker}
 use Rattle.tracker.specs.declared.Answer.{Answer}
 use Rattle.tracker.proofs.One.{says-one}
+use Rattle.rules.specs.State.{Rows}
 use Rattle.rules.specs.Step.{Turned}
 use Rattle.lines.specs.Lines.{rows}
 use Rattle.turned.specs.declared.Turned as left
-use Rattle.turned.specs.Steps.{Steps}
+use Rattle.turned.specs.Steps.{turned, OnAnyRows}
 
 -- what is left beside the rows, by its parts
 same-left : (r s : left.Turned) → r .hand ≡ s .hand → r .tracker ≡ s .tracker → r .answer ≡ s .answer → r ≡ s
@@ -18,16 +19,16 @@ same-left r s h t a =
     parts : ℕ → Tracker → Answer → left.Turned
     parts h t a = record { hand = h; tracker = t; answer = a }
 
-module _ (want : Turned) (r s : left.Turned) (ls bs m ls′ bs′ m′ : List ℕ)
-    (p : Steps want (r .answer) (r .hand) (r .tracker) ls bs m) (q : Steps want (s .answer) (s .hand) (s .tracker) ls′ bs′ m′) where
+module _ {want : Turned} (r s : left.Turned) (ls bs m ls′ bs′ m′ : List ℕ) (p : turned r ls bs m ≡ want) (q : turned s ls′ bs′ m′ ≡ want) where
+  alike : turned r ls bs m ≡ turned s ls′ bs′ m′
+  alike = p ∙ sym q
+
   pub turned-one : r ≡ s
-  turned-one = same-left r s (p .hand ∙ sym (q .hand)) (p .tracker ∙ sym (q .tracker)) (says-one _ _ (p .said ∙ sym (q .said)))
+  turned-one = same-left r s (ap (λ (y : Turned). y .hand) alike) (ap (λ (y : Turned). y .tracker) alike) (says-one _ _ (ap (λ (y : Turned). y .said) alike))
 
   pub rows-one : rows ls bs m ≡ rows ls′ bs′ m′
-  rows-one = rw (p .lines, p .bytes, p .memory, q .lines, q .bytes, q .memory) refl
+  rows-one = ap (λ (y : Turned). y .rows) alike
 
 -- a promise that holds of any rows, as each function of this crate makes
-pub any-rows-one : (want : List ℕ → List ℕ → List ℕ → Turned) (r s : left.Turned)
-    → ((ls bs m : List ℕ) → Steps (want ls bs m) (r .answer) (r .hand) (r .tracker) ls bs m)
-    → ((ls bs m : List ℕ) → Steps (want ls bs m) (s .answer) (s .hand) (s .tracker) ls bs m) → r ≡ s
-any-rows-one want r s p q = turned-one (want [] [] []) r s [] [] [] [] [] [] (p [] [] []) (q [] [] [])
+pub any-rows-one : (want : Rows → Turned) (r s : left.Turned) → OnAnyRows want r → OnAnyRows want s → r ≡ s
+any-rows-one want r s p q = turned-one r s [] [] [] [] [] [] (p [] [] []) (q [] [] [])

@@ -1,26 +1,21 @@
--- What a step on lent rows promises: what it answers, the hand, the tracker and the three rows are those of 01's rule.
+-- What a step on lent rows promises: what it says, the hand, the tracker and the three rows are those of 01's rule.
 use mathlib.Core.Path.{_≡_}
 use mathlib.Core.List.{List}
 use Prim.Native.Nat.{ℕ}
-use Rattle.tracker.specs.declared.Tracker.{Tracker}
-use Rattle.tracker.specs.declared.Answer.{Answer}
 use Rattle.tracker.specs.Answer.{says}
 use Rattle.rules.specs.State.{Rows}
-use Rattle.rules.specs.Step.{Turned}
+use Rattle.rules.specs.Step as rules
 use Rattle.lines.specs.Lines.{rows}
+use Rattle.turned.specs.declared.Turned.{Turned}
 
-pub record Steps (want : Turned) (answer : Answer) (h : ℕ) (t : Tracker) (ls bs m : List ℕ) : Type 0 where
-  pub said : says answer ≡ want .said
-  pub hand : h ≡ want .hand
-  pub tracker : t ≡ want .tracker
-  pub lines : ls ≡ want .rows .lines
-  pub bytes : bs ≡ want .rows .bytes
-  pub memory : m ≡ want .rows .memory
+-- what a step leaves: what it says, the hand, the tracker and the rows
+abbrev pub turned : Turned → List ℕ → List ℕ → List ℕ → rules.Turned
+turned r lines bytes memory = record { said = says (r .answer); hand = r .hand; tracker = r .tracker; rows = rows lines bytes memory }
 
 -- a step that changes no row: it is the rule's whatever the rows are
-abbrev pub OnAnyRows : (Rows → Turned) → Answer → ℕ → Tracker → Type 0
-OnAnyRows want answer h t = (ls bs m : List ℕ) → Steps (want (rows ls bs m)) answer h t ls bs m
+abbrev pub OnAnyRows : (Rows → rules.Turned) → Turned → Type 0
+OnAnyRows want r = (ls bs m : List ℕ) → turned r ls bs m ≡ want (rows ls bs m)
 
 -- a step that does not touch the memory: it is the rule's whatever the memory is
-abbrev pub OnAnyMemory : (Rows → Turned) → Answer → ℕ → Tracker → (ls bs ls' bs' : List ℕ) → Type 0
-OnAnyMemory want answer h t ls bs ls' bs' = (m : List ℕ) → Steps (want (rows ls bs m)) answer h t ls' bs' m
+abbrev pub OnAnyMemory : (Rows → rules.Turned) → Turned → (lines bytes lines' bytes' : List ℕ) → Type 0
+OnAnyMemory want r lines bytes lines' bytes' = (m : List ℕ) → turned r lines' bytes' m ≡ want (rows lines bytes m)

@@ -16,7 +16,7 @@ pub struct Turned {
 
 // The tracker ends: it is idle, every field zero.
 fn ends(hand: usize, answer: Answer) -> Turned
-    ensures { λ r. ⌜ OnAnyRows (λ q. ends (says answer) hand q) (r .answer) (r .hand) (r .tracker) ⌝ }
+    ensures { λ r. ⌜ OnAnyRows (λ q. ends (says answer) hand q) r ⌝ }
 {
     Turned {
         hand,
@@ -27,7 +27,7 @@ fn ends(hand: usize, answer: Answer) -> Turned
 
 // The ending of a read: the group, and one turn more.
 pub fn ends_read(hand: usize, t: Tracker, v: u32) -> Turned
-    ensures { λ r. ⌜ OnAnyRows (λ q. ends (read v (turnsOf t)) hand q) (r .answer) (r .hand) (r .tracker) ⌝ }
+    ensures { λ r. ⌜ OnAnyRows (λ q. ends (read v (turnsOf t)) hand q) r ⌝ }
 {
     let turns = tracker::one_more(t.turns);
     ends(hand, Answer::Read(v, turns))
@@ -35,7 +35,7 @@ pub fn ends_read(hand: usize, t: Tracker, v: u32) -> Turned
 
 // The ending of a write that put v in, and one turn more.
 pub fn ends_done(hand: usize, t: Tracker) -> Turned
-    ensures { λ r. ⌜ OnAnyRows (λ q. ends (done (turnsOf t)) hand q) (r .answer) (r .hand) (r .tracker) ⌝ }
+    ensures { λ r. ⌜ OnAnyRows (λ q. ends (done (turnsOf t)) hand q) r ⌝ }
 {
     let turns = tracker::one_more(t.turns);
     ends(hand, Answer::Done(turns))
@@ -43,7 +43,7 @@ pub fn ends_done(hand: usize, t: Tracker) -> Turned
 
 // The ending of a write whose group equals v, and one turn more.
 pub fn ends_same(hand: usize, t: Tracker) -> Turned
-    ensures { λ r. ⌜ OnAnyRows (λ q. ends (same (turnsOf t)) hand q) (r .answer) (r .hand) (r .tracker) ⌝ }
+    ensures { λ r. ⌜ OnAnyRows (λ q. ends (same (turnsOf t)) hand q) r ⌝ }
 {
     let turns = tracker::one_more(t.turns);
     ends(hand, Answer::Same(turns))
@@ -51,7 +51,7 @@ pub fn ends_same(hand: usize, t: Tracker) -> Turned
 
 // The tracker goes on to another phase.
 pub fn goes(hand: usize, t: Tracker, phase: Phase) -> Turned
-    ensures { λ r. ⌜ OnAnyRows (λ q. goes t phase hand q) (r .answer) (r .hand) (r .tracker) ⌝ }
+    ensures { λ r. ⌜ OnAnyRows (λ q. goes t phase hand q) r ⌝ }
 {
     Turned {
         hand,
@@ -62,7 +62,7 @@ pub fn goes(hand: usize, t: Tracker, phase: Phase) -> Turned
 
 // Nothing changes but the turn count.
 pub fn waits(hand: usize, t: Tracker) -> Turned
-    ensures { λ r. ⌜ OnAnyRows (λ q. waits t hand q) (r .answer) (r .hand) (r .tracker) ⌝ }
+    ensures { λ r. ⌜ OnAnyRows (λ q. waits t hand q) r ⌝ }
 {
     Turned {
         hand,
@@ -73,7 +73,7 @@ pub fn waits(hand: usize, t: Tracker) -> Turned
 
 // Nothing changes.
 pub fn refuses(c: u8, hand: usize, t: Tracker) -> Turned
-    ensures { λ r. ⌜ OnAnyRows (λ q. refuses c t hand q) (r .answer) (r .hand) (r .tracker) ⌝ }
+    ensures { λ r. ⌜ OnAnyRows (λ q. refuses c t hand q) r ⌝ }
 {
     Turned {
         hand,

@@ -3,12 +3,12 @@ use mathlib.Core.Path.{_≡_, refl}
 use mathlib.Core.List.{List}
 use mathlib.Core.Bool.{Bool, true, false}
 use mathlib.Core.Logic.{⊎-elim}
-use Prim.Native.Nat.{ℕ, _+_, _-_, _*_, _≤_, _<_, min}
+use Prim.Native.Nat.{ℕ, _+_, _-_, _≤_, _<_, min}
 use native.Mathlib.Omega.{arith}
 use lib.Dec.{eqb, ltb, leb}
 use lib.ListN.{length, getD, List·getD-eq-default}
 use borrow.Author.Tests.{lt-ltb, le-ltb, le-leb, lt-leb}
-use Rattle.geometry.specs.TagMemory.{groups, blocks}
+use Rattle.geometry.specs.TagMemory.{groups, blocks, mostTrackers}
 use Rattle.laws.specs.Choice.{both, implies, no}
 use Rattle.laws.specs.Scan.{all}
 use Rattle.laws.proofs.Choice.{both-false-left, both-false-right, implied}
@@ -84,20 +84,20 @@ module _ (n l : ℕ) (lines : List ℕ) (ts : List Tracker) (x : ℕ) where
   unfolding trackerWhole implies both no
   tracker-idle h = rw (idle-at (trackerAt ts x .phase) h)
 
-  pub tracker-far : isIdle (trackerAt ts x) ≡ false → 16 * n ≤ trackerAt ts x .group → trackerWhole (stateOf n 0 l 0 lines ts) x ≡ false
-  unfolding trackerWhole implies both no groups
-  tracker-far h q = rw (h, le-ltb (trackerAt ts x .group) (16 * n) q)
+  pub tracker-far : isIdle (trackerAt ts x) ≡ false → groups n ≤ trackerAt ts x .group → trackerWhole (stateOf n 0 l 0 lines ts) x ≡ false
+  unfolding trackerWhole implies both no
+  tracker-far h q = rw (h, le-ltb (trackerAt ts x .group) (groups n) q)
 
-  pub tracker-holds : isIdle (trackerAt ts x) ≡ false → trackerAt ts x .group < 16 * n → holdsAt (trackerAt ts x .phase) ≡ true
+  pub tracker-holds : isIdle (trackerAt ts x) ≡ false → trackerAt ts x .group < groups n → holdsAt (trackerAt ts x .phase) ≡ true
       → trackerWhole (stateOf n 0 l 0 lines ts) x
       ≡ both (phaseWhole (trackerAt ts x .write) (trackerAt ts x .bottom) (trackerAt ts x .phase)) (heldByIt n l lines (trackerAt ts x .group) x)
-  unfolding trackerWhole implies both no heldByIt groups
-  tracker-holds h q k = rw (h, lt-ltb (trackerAt ts x .group) (16 * n) q, k)
+  unfolding trackerWhole implies both no heldByIt
+  tracker-holds h q k = rw (h, lt-ltb (trackerAt ts x .group) (groups n) q, k)
 
-  pub tracker-loose : isIdle (trackerAt ts x) ≡ false → trackerAt ts x .group < 16 * n → holdsAt (trackerAt ts x .phase) ≡ false
+  pub tracker-loose : isIdle (trackerAt ts x) ≡ false → trackerAt ts x .group < groups n → holdsAt (trackerAt ts x .phase) ≡ false
       → trackerWhole (stateOf n 0 l 0 lines ts) x ≡ phaseWhole (trackerAt ts x .write) (trackerAt ts x .bottom) (trackerAt ts x .phase)
-  unfolding trackerWhole implies both no groups
-  tracker-loose h q k = rw (h, lt-ltb (trackerAt ts x .group) (16 * n) q, k) (both-yes _)
+  unfolding trackerWhole implies both no
+  tracker-loose h q k = rw (h, lt-ltb (trackerAt ts x .group) (groups n) q, k) (both-yes _)
 
 no-used : no (used 0) ≡ true
 unfolding no used
@@ -119,7 +119,7 @@ module _ (l : ℕ) (lines : List ℕ) where
   rest-fails i h q p = all-fails _ (length lines) i q (rw (le-leb l i h, used-is (getD lines i 0) p))
 
 -- a number past the table names an idle tracker
-pub tracker-past : (ts : List Tracker) (x : ℕ) → length ts ≡ 8 → 8 ≤ x → trackerAt ts x ≡ idle
+pub tracker-past : (ts : List Tracker) (x : ℕ) → length ts ≡ mostTrackers → mostTrackers ≤ x → trackerAt ts x ≡ idle
 tracker-past ts x e q = List·getD-eq-default ts idle (omega arith)
 
 -- trackers t and up
@@ -132,12 +132,12 @@ module _ (t : ℕ) (ts : List Tracker) where
       → all (λ x. implies (leb t x) (isIdle (trackerAt ts x))) (x + 1) ≡ true
   idle-more x e h = all-more _ x e (implied (leb t x) _ (λ k. h))
 
-  pub idle-fails : (x : ℕ) → t ≤ x → x < 8 → isIdle (trackerAt ts x) ≡ false → all (λ x. implies (leb t x) (isIdle (trackerAt ts x))) 8 ≡ false
+  pub idle-fails : (x : ℕ) → t ≤ x → x < mostTrackers → isIdle (trackerAt ts x) ≡ false → all (λ x. implies (leb t x) (isIdle (trackerAt ts x))) mostTrackers ≡ false
   unfolding implies
   idle-fails x h q f = all-fails _ 8 x q (rw (le-leb t x h) f)
 
   -- those past the table are idle
-  pub idle-past : (e : ℕ) → length ts ≡ 8 → e ≡ min t 8 → all (λ x. isIdle (trackerAt ts x)) e ≡ true → all (λ x. isIdle (trackerAt ts x)) t ≡ true
+  pub idle-past : (e : ℕ) → length ts ≡ mostTrackers → e ≡ min t mostTrackers → all (λ x. isIdle (trackerAt ts x)) e ≡ true → all (λ x. isIdle (trackerAt ts x)) t ≡ true
   idle-past e k m a =
       all-is _ t
       (λ x h. ⊎-elim (λ (q : x < e). all-at _ e a x q) (λ (q : e ≤ x). rw (tracker-past ts x k (omega arith)) refl) (lt-or-ge x e))
@@ -152,10 +152,10 @@ module _ (n t l hand : ℕ) (lines : List ℕ) (ts : List Tracker) where
   unfolding whole
   whole-short h = both-false-right _ _ (both-false-left _ _ (both-false-left _ _ (lt-leb l (length lines) h)))
 
-  pub whole-is : limits n t l ≡ true → l ≤ length lines → length ts ≡ 8
+  pub whole-is : limits n t l ≡ true → l ≤ length lines → length ts ≡ mostTrackers
       → whole (stateOf n t l hand lines ts)
       ≡ both (ltb hand l)
       (both (both (all (λ i. implies (leb l i) (no (used (getD lines i 0)))) (length lines)) (all (λ x. implies (leb t x) (isIdle (trackerAt ts x))) 8))
       (both (all (lineWhole (stateOf n t l 0 lines ts)) l) (all (trackerWhole (stateOf n 0 l 0 lines ts)) t)))
   unfolding whole both lineWhole trackerWhole
-  whole-is h q e = rw (h, le-leb l (length lines) q, e, le-leb t 8 (t-most n t l h))
+  whole-is h q e = rw (h, le-leb l (length lines) q, e, le-leb t mostTrackers (t-most n t l h))

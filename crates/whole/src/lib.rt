@@ -11,6 +11,7 @@ ghost use lib.ListN.{length, getD};
 ghost use Rattle.laws.specs.Choice.{both, implies, no};
 ghost use Rattle.laws.specs.Refusal.{refusal};
 ghost use Rattle.laws.specs.Scan.{all};
+ghost use Rattle.geometry.specs.TagMemory.{mostLeaves, mostTrackers};
 ghost use Rattle.tracker.specs.Tracker.{holdsAt, isIdle};
 ghost use Rattle.line.specs.Word.{used};
 ghost use Rattle.rules.specs.State.{trackerAt};
@@ -24,7 +25,10 @@ pub fn limits(n: u64, t: u64, l: u64) -> bool
 {
     both(
         Geometry::in_limits(n),
-        both(both(1 <= t, t <= 8), both(t < l, l <= 64)),
+        both(
+            both(1 <= t, t <= Geometry::MOST_TRACKERS as u64),
+            both(t < l, l <= Geometry::MOST_LINES as u64),
+        ),
     )
 }
 
@@ -60,8 +64,8 @@ fn holds(n: u32, t: Tracker, b: u32) -> bool
 }
 
 // A line that names a holder names a tracker, of t, that holds its block.
-fn holder_whole(n: u32, t: u32, w: u32, trackers: [Tracker; 8]) -> bool
-    requires { ⌜ t ≤ 8 ⌝ }
+fn holder_whole(n: u32, t: u32, w: u32, trackers: [Tracker; Geometry::MOST_TRACKERS]) -> bool
+    requires { ⌜ t ≤ mostTrackers ⌝ }
     ensures { λ r. ⌜ r ≡ holderWhole n t trackers w ⌝ }
 {
     let h = line::holder(w);
@@ -77,8 +81,15 @@ fn holder_whole(n: u32, t: u32, w: u32, trackers: [Tracker; 8]) -> bool
 }
 
 // Line i of l, which the row has: its block exists and has no other line, and its holder holds it.
-fn line_whole(n: u32, t: u32, l: usize, lines: &[u32], trackers: [Tracker; 8], i: usize) -> bool
-    requires { ⌜ (t ≤ 8) × (i < length (now lines)) ⌝ }
+fn line_whole(
+    n: u32,
+    t: u32,
+    l: usize,
+    lines: &[u32],
+    trackers: [Tracker; Geometry::MOST_TRACKERS],
+    i: usize,
+) -> bool
+    requires { ⌜ (t ≤ mostTrackers) × (i < length (now lines)) ⌝ }
     ensures { λ r. ⌜ r ≡ lineWhole (stateOf n t l 0 (now (lines .entry)) trackers) i ⌝ }
 {
     let w = lines[i];
@@ -96,8 +107,14 @@ fn line_whole(n: u32, t: u32, l: usize, lines: &[u32], trackers: [Tracker; 8], i
 }
 
 // Each of the l lines, which the row has.
-fn lines_whole(n: u32, t: u32, l: usize, lines: &[u32], trackers: [Tracker; 8]) -> bool
-    requires { ⌜ (t ≤ 8) × (l ≤ length (now lines)) ⌝ }
+fn lines_whole(
+    n: u32,
+    t: u32,
+    l: usize,
+    lines: &[u32],
+    trackers: [Tracker; Geometry::MOST_TRACKERS],
+) -> bool
+    requires { ⌜ (t ≤ mostTrackers) × (l ≤ length (now lines)) ⌝ }
     ensures { λ r. ⌜ r ≡ all (lineWhole (stateOf n t l 0 (now (lines .entry)) trackers)) l ⌝ }
 {
     let mut i: usize = 0;
@@ -127,7 +144,7 @@ fn phase_whole(phase: Phase, write: bool, bottom: bool) -> bool
 
 // The map block of group g is in one of l lines, which names tracker x as its holder.
 fn held_by_it(n: u32, l: usize, lines: &[u32], g: u32, x: usize) -> bool
-    requires { ⌜ (n ≤ 262144) × (l ≤ length (now lines)) × (x < 8) ⌝ }
+    requires { ⌜ (n ≤ mostLeaves) × (l ≤ length (now lines)) × (x < mostTrackers) ⌝ }
     ensures { λ r. ⌜ r ≡ heldByIt n l (now (lines .entry)) g x ⌝ }
 {
     let b = Geometry::map_number(n, Geometry::leaf_of(g)) as u32;
@@ -139,15 +156,21 @@ fn held_by_it(n: u32, l: usize, lines: &[u32], g: u32, x: usize) -> bool
 }
 
 // Tracker x: its group exists, its phase is as it must be, and it is the holder of the map block that it holds.
-fn tracker_whole(n: u32, l: usize, lines: &[u32], trackers: [Tracker; 8], x: usize) -> bool
-    requires { ⌜ (n ≤ 262144) × (l ≤ length (now lines)) × (x < 8) ⌝ }
+fn tracker_whole(
+    n: u32,
+    l: usize,
+    lines: &[u32],
+    trackers: [Tracker; Geometry::MOST_TRACKERS],
+    x: usize,
+) -> bool
+    requires { ⌜ (n ≤ mostLeaves) × (l ≤ length (now lines)) × (x < mostTrackers) ⌝ }
     ensures { λ r. ⌜ r ≡ trackerWhole (stateOf n 0 l 0 (now (lines .entry)) trackers) x ⌝ }
 {
     let t = trackers[x];
     if t.is_idle() {
         return true;
     }
-    if 16 * (n as u64) <= t.group as u64 {
+    if Geometry::groups(n) <= t.group as u64 {
         return false;
     }
     let phase = t.phase;
@@ -162,8 +185,14 @@ fn tracker_whole(n: u32, l: usize, lines: &[u32], trackers: [Tracker; 8], x: usi
 }
 
 // Each of the t trackers.
-fn trackers_whole(n: u32, t: u32, l: usize, lines: &[u32], trackers: [Tracker; 8]) -> bool
-    requires { ⌜ (n ≤ 262144) × (t ≤ 8) × (l ≤ length (now lines)) ⌝ }
+fn trackers_whole(
+    n: u32,
+    t: u32,
+    l: usize,
+    lines: &[u32],
+    trackers: [Tracker; Geometry::MOST_TRACKERS],
+) -> bool
+    requires { ⌜ (n ≤ mostLeaves) × (t ≤ mostTrackers) × (l ≤ length (now lines)) ⌝ }
     ensures { λ r. ⌜ r ≡ all (trackerWhole (stateOf n 0 l 0 (now (lines .entry)) trackers)) t ⌝ }
 {
     let end = t as usize;
@@ -194,12 +223,12 @@ fn rest_free(l: usize, lines: &[u32]) -> bool
 }
 
 // Trackers t and up are idle.
-fn rest_idle(t: u32, trackers: [Tracker; 8]) -> bool
-    requires { ⌜ t ≤ 8 ⌝ }
-    ensures { λ r. ⌜ r ≡ all (λ x. implies (leb t x) (isIdle (trackerAt trackers x))) 8 ⌝ }
+fn rest_idle(t: u32, trackers: [Tracker; Geometry::MOST_TRACKERS]) -> bool
+    requires { ⌜ t ≤ mostTrackers ⌝ }
+    ensures { λ r. ⌜ r ≡ all (λ x. implies (leb t x) (isIdle (trackerAt trackers x))) mostTrackers ⌝ }
 {
     let mut x = t as usize;
-    while x < 8 {
+    while x < Geometry::MOST_TRACKERS {
         let tracker = trackers[x];
         if tracker.is_idle() {
             x += 1;
@@ -211,7 +240,14 @@ fn rest_idle(t: u32, trackers: [Tracker; 8]) -> bool
 }
 
 // The state with these parts is whole.
-pub fn whole(n: u32, t: u32, l: usize, hand: usize, lines: &[u32], trackers: [Tracker; 8]) -> bool
+pub fn whole(
+    n: u32,
+    t: u32,
+    l: usize,
+    hand: usize,
+    lines: &[u32],
+    trackers: [Tracker; Geometry::MOST_TRACKERS],
+) -> bool
     ensures { λ r. ⌜ r ≡ whole (stateOf n t l hand (now (lines .entry)) trackers) ⌝ }
 {
     if !limits(n as u64, t as u64, l as u64) {
@@ -229,10 +265,10 @@ pub fn whole(n: u32, t: u32, l: usize, hand: usize, lines: &[u32], trackers: [Tr
 }
 
 // Each of the t trackers is idle; those past the table are.
-fn all_idle(t: u32, trackers: [Tracker; 8]) -> bool
+fn all_idle(t: u32, trackers: [Tracker; Geometry::MOST_TRACKERS]) -> bool
     ensures { λ r. ⌜ r ≡ all (λ x. isIdle (trackerAt trackers x)) t ⌝ }
 {
-    let end = lesser(t, 8) as usize;
+    let end = lesser(t, Geometry::MOST_TRACKERS as u32) as usize;
     let mut x: usize = 0;
     while x < end {
         let tracker = trackers[x];
@@ -253,10 +289,10 @@ fn lesser(a: u32, b: u32) -> u32
 }
 
 // Tracker x is idle; one past the table is.
-fn idle_at(trackers: [Tracker; 8], x: u64) -> bool
+fn idle_at(trackers: [Tracker; Geometry::MOST_TRACKERS], x: u64) -> bool
     ensures { λ r. ⌜ r ≡ isIdle (trackerAt trackers x) ⌝ }
 {
-    if 8 <= x {
+    if Geometry::MOST_TRACKERS as u64 <= x {
         return true;
     }
     let k = x as usize;
@@ -265,7 +301,13 @@ fn idle_at(trackers: [Tracker; 8], x: u64) -> bool
 }
 
 // The refusal of an issue that comes after 4 and 2: 5, 6, 7; 0 if none.
-pub fn issue_refusal(n: u32, t: u32, x: u64, access: Access, trackers: [Tracker; 8]) -> u8
+pub fn issue_refusal(
+    n: u32,
+    t: u32,
+    x: u64,
+    access: Access,
+    trackers: [Tracker; Geometry::MOST_TRACKERS],
+) -> u8
     ensures { λ r. ⌜ r ≡ refusal (issueTests n t x access trackers) ⌝ }
 {
     if t as u64 <= x {
@@ -278,7 +320,7 @@ pub fn issue_refusal(n: u32, t: u32, x: u64, access: Access, trackers: [Tracker;
 }
 
 // The refusal of a step that comes after 4 and 2: 5, 8; 0 if none.
-pub fn step_refusal(t: u32, x: u64, trackers: [Tracker; 8]) -> u8
+pub fn step_refusal(t: u32, x: u64, trackers: [Tracker; Geometry::MOST_TRACKERS]) -> u8
     ensures { λ r. ⌜ r ≡ refusal (stepTests t x trackers) ⌝ }
 {
     if t as u64 <= x {
@@ -288,14 +330,14 @@ pub fn step_refusal(t: u32, x: u64, trackers: [Tracker; 8]) -> u8
 }
 
 // The refusal of a drain that comes after 4 and 2: 7; 0 if none.
-pub fn drain_refusal(t: u32, trackers: [Tracker; 8]) -> u8
+pub fn drain_refusal(t: u32, trackers: [Tracker; Geometry::MOST_TRACKERS]) -> u8
     ensures { λ r. ⌜ r ≡ refusal (drainTests (all (λ x. isIdle (trackerAt trackers x)) t)) ⌝ }
 {
     if all_idle(t, trackers) { 0 } else { 7 }
 }
 
 // The refusal of showing leaf k that comes after 4 and 2: 6, 7; 0 if none.
-pub fn show_refusal(n: u32, t: u32, k: u64, trackers: [Tracker; 8]) -> u8
+pub fn show_refusal(n: u32, t: u32, k: u64, trackers: [Tracker; Geometry::MOST_TRACKERS]) -> u8
     ensures { λ r. ⌜ r ≡ refusal (showTests n k (all (λ x. isIdle (trackerAt trackers x)) t)) ⌝ }
 {
     if n as u64 <= k {

@@ -1,7 +1,7 @@
 -- `fetch` meets its contract: no line to take, or the placed line filled from memory.
 use borrow.Author.Needs.{needs}
 use native.Mathlib.Omega.{arith}
-use Rattle.lines.proofs.Ways.{placed-lines, placed-bytes, fetched-none, fetched-is}
+use Rattle.lines.proofs.Ways.{line-is, placed-lines, placed-bytes, fetched-none, fetched-is}
 use Rattle.lines.proofs.fetch.Statement.{statement}
 use Rattle.lines.proofs.fetch.Tie as tie
 
@@ -30,13 +30,13 @@ word-requires : tie.Need-word-requires
 word-requires c κs = search needs
 
 mul-lines : tie.Need-mul-lines
-mul-lines c = omega (arith, placed-lines _ _ _ _ _ (c .before .before .before .before .before .before .before .place .ensures .line) (omega arith))
+mul-lines c = omega (arith, placed-lines _ _ _ _ _ (line-is (c .before .before .before .before .before .before .before .place .ensures)) (omega arith))
 
 slice-write-lines : tie.Need-slice-write-lines
-slice-write-lines c = omega (arith, placed-lines _ _ _ _ _ (c .before .before .before .before .before .before .before .place .ensures .line) (omega arith))
+slice-write-lines c = omega (arith, placed-lines _ _ _ _ _ (line-is (c .before .before .before .before .before .before .before .place .ensures)) (omega arith))
 
 mul-write-block : tie.Need-mul-write-block
-mul-write-block c = omega (arith, placed-bytes _ _ _ _ _ (c .before .before .before .before .before .before .before .before .place .ensures .line) (omega arith))
+mul-write-block c = omega (arith, placed-bytes _ _ _ _ _ (line-is (c .before .before .before .before .before .before .before .before .place .ensures)) (omega arith))
 
 write-block-requires : tie.Need-write-block-requires
 write-block-requires c κs = search needs

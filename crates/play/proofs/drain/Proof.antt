@@ -1,8 +1,11 @@
 -- `drain` meets its contract: refused, or the rows are drained.
 use borrow.Author.Needs.{needs}
-use mathlib.Core.Path.{refl}
+use mathlib.Core.Path.{ap}
 use native.Mathlib.Omega.{arith}
-use Rattle.play.proofs.Ways.{by-rule, drain-no, drain-ok}
+use Rattle.rules.specs.State.{Rows}
+use Rattle.play.specs.Turn.{accepts}
+use Rattle.turned.proofs.Rule.{by-rule}
+use Rattle.play.proofs.Ways.{drain-no, drain-ok}
 use Rattle.play.proofs.drain.Statement.{statement}
 use Rattle.play.proofs.drain.Tie as tie
 
@@ -26,7 +29,7 @@ same-length-2 c = search needs
 
 returns-2 : tie.Need-returns-2
 returns-2 c = by-rule (drain-ok _ _ _ _ _ _ _ (c .before .before .before .before .before .before .before .before .drain-refusal .ensures) (omega arith))
-    (record { said = refl; hand = refl; tracker = refl; lines = c .before .before .before .before .drain .ensures .lines; bytes = refl; memory = c .before .before .before .before .drain .ensures .memory })
+    (let a = c .before .before .before .before .before .before .before .before .before .before .before .before .args in ap (λ (y : Rows). accepts (a .hand) (a .u) y) (c .before .before .before .before .drain .ensures))
 
 pub drain-spec : {M : Type 1} → statement M
 drain-spec =

@@ -2,7 +2,8 @@
 use borrow.Author.Needs.{needs}
 use mathlib.Core.Path.{refl}
 use native.Mathlib.Omega.{arith}
-use Rattle.play.proofs.Ways.{by-rule, issue-no, issue-ok}
+use Rattle.turned.proofs.Rule.{by-rule}
+use Rattle.play.proofs.Ways.{issue-no, issue-ok}
 use Rattle.play.proofs.issue.Statement.{statement}
 use Rattle.play.proofs.issue.Tie as tie
 
@@ -20,7 +21,7 @@ begin-requires c κs = search needs
 
 returns-2 : tie.Need-returns-2
 returns-2 c = λ ls bs m. by-rule (issue-ok _ _ _ _ _ _ _ _ _ (c .before .before .issue-refusal .ensures) (omega arith))
-    (record { said = refl; hand = refl; tracker = c .begin .ensures; lines = refl; bytes = refl; memory = refl })
+    (rw (c .begin .ensures) refl)
 
 pub issue-spec : {M : Type 1} → statement M
 issue-spec = tie.close (tie.spec issue-refusal-requires refuses-requires returns begin-requires returns-2)

@@ -145,7 +145,7 @@ loop-again c = let k = c .before .before .before .before .before .before .before
     let a = c .before .before .before .before .before .before .before .before .before .before .before .before .before .before .before .before .before .before .before .before .before .before .before .before .before .before .before .before .before .before .before .before .args in
     let i = a .input .now in
     let on : goesOn i (under (a .state .n) (a .state .t) (a .state .l) (k .hand) (k .lines) (k .trackers) (k .bytes) (k .memory) (k .k) (k .at) (k .output) (k .written)) ≡ true = sym (on-is i (under (a .state .n) (a .state .t) (a .state .l) (k .hand) (k .lines) (k .trackers) (k .bytes) (k .memory) (k .k) (k .at) (k .output) (k .written)) (k .e) (k .inv .1)) ∙ sym (c .before .before .before .before .before .before .before .before .before .before .before .before .before .before .before .before .before .before .before .before .goes-on .ensures) ∙ c .before .before .before .before .before .before .before .before .before .before .before .before .before .before .before .before .before .before .before .if1 .taken in
-    (going-line i _ _ _ _ _ _ _ _ _ (k .at) _ _ (k .e) _ _ (k .inv .0) on (k .inv .1) (c .before .before .before .before .before .before .before .before .before .before .before .before .before .before .before .before .before .parse .ensures) (c .before .before .before .before .before .before .before .before .before .before .before .before .before .before .before .named .ensures) (c .before .before .before .before .before .before .before .before .before .before .follow .ensures) (c .before .before .put-line .ensures .0) (c .before .before .put-line .ensures .1), c .before .before .before .before .before .before .before .before .before .before .before .before .before .before .before .before .line-end2 .ensures, search needs, search needs, search needs, search needs, search needs)
+    (going-line i _ _ _ _ _ _ _ _ _ (k .at) _ _ (k .e) _ _ (c .before .before .before .before .before .before .before .before .before .before .follow .result) (k .inv .0) on (k .inv .1) (c .before .before .before .before .before .before .before .before .before .before .before .before .before .before .before .before .before .parse .ensures) (c .before .before .before .before .before .before .before .before .before .before .before .before .before .before .before .named .ensures) (c .before .before .before .before .before .before .before .before .before .before .follow .ensures) (c .before .before .put-line .ensures .0) (c .before .before .put-line .ensures .1), c .before .before .before .before .before .before .before .before .before .before .before .before .before .before .before .before .line-end2 .ensures, search needs, search needs, search needs, search needs, search needs)
 
 same-length : tie.Need-same-length Inv-loop μ-loop
 same-length c = search needs

@@ -16,20 +16,17 @@ returns c = λ bs m. fit-limits _ _ _ _ _ (sym (c .before .in-limits .ensures) �
 returns-2 : tie.Need-returns-2
 returns-2 c = λ bs m. fit-lines _ _ _ _ _ (omega arith)
 
+groups-requires : tie.Need-groups-requires
+groups-requires c κs = search needs
+
 cast-if3 : tie.Need-cast-if3
 cast-if3 c = search needs
-
-mul-if3 : tie.Need-mul-if3
-mul-if3 c = search needs
-
-cast-if3-2 : tie.Need-cast-if3-2
-cast-if3-2 c = search needs
 
 returns-3 : tie.Need-returns-3
 returns-3 c = λ bs m. fit-group _ _ _ _ _ (omega arith)
 
 returns-4 : tie.Need-returns-4
-returns-4 c = λ bs m. fit-rest _ _ _ _ _ (sym (c .before .before .before .before .in-limits .ensures) ∙ not-false _ (c .before .before .before .if1 .left)) (omega arith) (omega arith)
+returns-4 c = λ bs m. fit-rest _ _ _ _ _ (sym (c .before .before .before .before .before .in-limits .ensures) ∙ not-false _ (c .before .before .before .before .if1 .left)) (omega arith) (omega arith)
 
 pub fit-spec : {M : Type 1} → statement M
-fit-spec = tie.close (tie.spec in-limits-requires returns returns-2 cast-if3 mul-if3 cast-if3-2 returns-3 returns-4)
+fit-spec = tie.close (tie.spec in-limits-requires returns returns-2 groups-requires cast-if3 returns-3 returns-4)

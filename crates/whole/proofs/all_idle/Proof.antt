@@ -18,6 +18,9 @@ Inv-loop t trackers end x₀ x = (x ≤ end) × (all (λ x. isIdle (trackerAt tr
 abbrev μ-loop : tie.MeasureT-loop
 μ-loop t trackers end x₀ x = end - x
 
+cast-lesser : tie.Need-cast-lesser Inv-loop μ-loop
+cast-lesser c = omega arith
+
 lesser-requires : tie.Need-lesser-requires Inv-loop μ-loop
 lesser-requires c κs = omega arith
 
@@ -57,6 +60,7 @@ all-idle-spec =
     (tie.spec
     Inv-loop
     μ-loop
+    cast-lesser
     lesser-requires
     cast-end
     loop-holds

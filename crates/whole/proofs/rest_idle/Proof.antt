@@ -6,6 +6,7 @@ use native.Mathlib.Omega.{arith}
 use Rattle.laws.specs.Scan.{all}
 use lib.Dec.{leb}
 use Rattle.laws.specs.Choice.{implies}
+use Rattle.geometry.specs.TagMemory.{mostTrackers}
 use Rattle.tracker.specs.Tracker.{isIdle}
 use Rattle.rules.specs.State.{trackerAt}
 use Rattle.whole.proofs.Tests.{idle-start, idle-more, idle-fails}
@@ -13,10 +14,10 @@ use Rattle.whole.proofs.rest_idle.Statement.{statement}
 use Rattle.whole.proofs.rest_idle.Tie as tie
 
 abbrev Inv-loop : tie.InvT-loop
-Inv-loop t trackers x₀ x = (t ≤ x) × (x ≤ 8) × (all (λ x. implies (leb t x) (isIdle (trackerAt trackers x))) x ≡ true)
+Inv-loop t trackers x₀ x = (t ≤ x) × (x ≤ mostTrackers) × (all (λ x. implies (leb t x) (isIdle (trackerAt trackers x))) x ≡ true)
 
 abbrev μ-loop : tie.MeasureT-loop
-μ-loop t trackers x₀ x = 8 - x
+μ-loop t trackers x₀ x = mostTrackers - x
 
 loop-holds : tie.Need-loop-holds Inv-loop μ-loop
 loop-holds c = (omega arith, omega arith, idle-start (c .args .t) (c .args .t2))
@@ -43,7 +44,7 @@ returns : tie.Need-returns Inv-loop μ-loop
 returns c = sym (idle-fails (c .before .before .before .before .before .args .t) (c .before .before .before .before .before .args .t2) (c .before .before .before .before .loop .x) (omega arith) (omega arith) (sym (c .before .is-idle .ensures) ∙ c .if1 .left))
 
 returns-2 : tie.Need-returns-2 Inv-loop μ-loop
-returns-2 c = let e : c .before .loop .x ≡ 8 = omega arith in sym (rw e at (c .before .loop .inv .2))
+returns-2 c = let e : c .before .loop .x ≡ mostTrackers = omega arith in sym (rw e at (c .before .loop .inv .2))
 
 pub rest-idle-spec : {M : Type 1} → statement M
 rest-idle-spec =

@@ -16,16 +16,18 @@ is-idle-requires : tie.Need-is-idle-requires
 is-idle-requires c κs = search needs
 
 returns : tie.Need-returns
-returns c = sym (tracker-idle (c .before .before .before .before .args .n) (c .before .before .before .before .args .l) (c .before .before .before .before .args .lines .now) (c .before .before .before .before .args .t4) (c .before .before .before .before .args .x) (sym (c .before .is-idle .ensures) ∙ c .if1 .taken))
+returns c = let a = c .before .before .before .before .args in
+    sym (tracker-idle (a .n) (a .l) (a .lines .now) (a .t4) (a .x) (sym (c .before .is-idle .ensures) ∙ c .if1 .taken))
 
-mul-if2 : tie.Need-mul-if2
-mul-if2 c = search needs
+groups-requires : tie.Need-groups-requires
+groups-requires c κs = search needs
 
 cast-if2 : tie.Need-cast-if2
 cast-if2 c = search needs
 
 returns-2 : tie.Need-returns-2
-returns-2 c = sym (tracker-far (c .before .before .before .before .before .before .args .n) (c .before .before .before .before .before .before .args .l) (c .before .before .before .before .before .before .args .lines .now) (c .before .before .before .before .before .before .args .t4) (c .before .before .before .before .before .before .args .x) (sym (c .before .before .before .is-idle .ensures) ∙ c .before .before .if1 .left) (omega arith))
+returns-2 c = let a = c .before .before .before .before .before .before .before .args in
+    sym (tracker-far (a .n) (a .l) (a .lines .now) (a .t4) (a .x) (sym (c .before .before .before .before .is-idle .ensures) ∙ c .before .before .before .if1 .left) (omega arith))
 
 holds-at-requires : tie.Need-holds-at-requires
 holds-at-requires c κs = search needs
@@ -43,10 +45,12 @@ phase-whole-requires-2 : tie.Need-phase-whole-requires-2
 phase-whole-requires-2 c κs = search needs
 
 returns-3 : tie.Need-returns-3
-returns-3 c = rw (c .both .ensures, c .before .held-by-it .ensures, c .before .before .phase-whole .ensures) (sym (tracker-holds (c .before .before .before .before .before .before .before .before .before .before .before .args .n) (c .before .before .before .before .before .before .before .before .before .before .before .args .l) (c .before .before .before .before .before .before .before .before .before .before .before .args .lines .now) (c .before .before .before .before .before .before .before .before .before .before .before .args .t4) (c .before .before .before .before .before .before .before .before .before .before .before .args .x) (sym (c .before .before .before .before .before .before .before .before .is-idle .ensures) ∙ c .before .before .before .before .before .before .before .if1 .left) (omega arith) (sym (c .before .before .before .before .holds-at .ensures) ∙ c .before .before .before .if3 .taken)))
+returns-3 c = let a = c .before .before .before .before .before .before .before .before .before .before .before .before .args in
+    rw (c .both .ensures, c .before .held-by-it .ensures, c .before .before .phase-whole .ensures) (sym (tracker-holds (a .n) (a .l) (a .lines .now) (a .t4) (a .x) (sym (c .before .before .before .before .before .before .before .before .before .is-idle .ensures) ∙ c .before .before .before .before .before .before .before .before .if1 .left) (omega arith) (sym (c .before .before .before .before .holds-at .ensures) ∙ c .before .before .before .if3 .taken)))
 
 returns-4 : tie.Need-returns-4
-returns-4 c = rw (c .phase-whole2 .ensures) (sym (tracker-loose (c .before .before .before .before .before .before .before .before .before .args .n) (c .before .before .before .before .before .before .before .before .before .args .l) (c .before .before .before .before .before .before .before .before .before .args .lines .now) (c .before .before .before .before .before .before .before .before .before .args .t4) (c .before .before .before .before .before .before .before .before .before .args .x) (sym (c .before .before .before .before .before .before .is-idle .ensures) ∙ c .before .before .before .before .before .if1 .left) (omega arith) (sym (c .before .before .holds-at .ensures) ∙ c .before .if3 .left)))
+returns-4 c = let a = c .before .before .before .before .before .before .before .before .before .before .args in
+    rw (c .phase-whole2 .ensures) (sym (tracker-loose (a .n) (a .l) (a .lines .now) (a .t4) (a .x) (sym (c .before .before .before .before .before .before .before .is-idle .ensures) ∙ c .before .before .before .before .before .before .if1 .left) (omega arith) (sym (c .before .before .holds-at .ensures) ∙ c .before .if3 .left)))
 
 pub tracker-whole-spec : {M : Type 1} → statement M
 tracker-whole-spec =
@@ -56,7 +60,7 @@ tracker-whole-spec =
     array-copy-out-t
     is-idle-requires
     returns
-    mul-if2
+    groups-requires
     cast-if2
     returns-2
     holds-at-requires

@@ -1,8 +1,10 @@
 -- `drain` meets its contract: refused, or the rows are drained.
 use borrow.Author.Needs.{needs}
-use mathlib.Core.Path.{_≡_, sym}
+use mathlib.Core.Path.{_≡_, sym, ap, _∙_}
 use native.Mathlib.Omega.{arith}
 use lib.ListN.{length}
+use Rattle.rules.specs.State.{Rows}
+use Rattle.rules.specs.Calls.{accepted, withLines}
 use Rattle.cache.specs.Seen.{seen}
 use Rattle.cache.proofs.Refusals.{drain-rows, drain-refused, drain-accepted}
 use Rattle.cache.proofs.State.drain.Statement.{statement}
@@ -18,7 +20,8 @@ same-length : tie.Need-same-length
 same-length c = search needs
 
 returns : tie.Need-returns
-returns c = rw (c .refuse .ensures .0, c .refuse .ensures .1) (sym (drain-refused (seen (c .before .before .before .before .before .before .args .t1)) (c .before .before .before .before .before .before .args .bytes .now) (c .before .before .before .before .before .before .args .memory .now) (c .before .before .drain-refusal .result) (c .before .before .drain-refusal .ensures) (omega arith)))
+returns c = let a = c .before .before .before .before .before .before .args in
+    rw (c .refuse .ensures .0, c .refuse .ensures .1) (sym (drain-refused (seen (a .t1)) (a .bytes .now) (a .memory .now) (c .before .before .drain-refusal .result) (c .before .before .drain-refusal .ensures) (omega arith)))
 
 drain-row-requires : tie.Need-drain-row-requires
 drain-row-requires c κs = search needs
@@ -27,7 +30,10 @@ same-length-2 : tie.Need-same-length-2
 same-length-2 c = search needs
 
 returns-2 : tie.Need-returns-2
-returns-2 c = let e : length ((c .before .before .before .before .before .before .before .before .before .before .args .t1) .lines) ≡ 64 = search needs in rw (c .before .before .drain-row .ensures .lines, c .before .before .drain-row .ensures .memory, drain-rows (seen (c .before .before .before .before .before .before .before .before .before .before .args .t1)) (c .before .before .before .before .before .before .before .before .before .before .args .bytes .now) (c .before .before .before .before .before .before .before .before .before .before .args .memory .now) (omega arith) e) (sym (drain-accepted (seen (c .before .before .before .before .before .before .before .before .before .before .args .t1)) (c .before .before .before .before .before .before .before .before .before .before .args .bytes .now) (c .before .before .before .before .before .before .before .before .before .before .args .memory .now) (omega arith)))
+returns-2 c = let a = c .before .before .before .before .before .before .before .before .before .before .args in
+    let e : length (a .t1 .lines) ≡ 64 = search needs in
+    ap (λ (y : Rows). accepted (withLines (seen (a .t1)) (y .lines)) (a .bytes .now) (y .memory)) (c .before .before .drain-row .ensures ∙ drain-rows (seen (a .t1)) (a .bytes .now) (a .memory .now) (omega arith) e)
+    ∙ sym (drain-accepted (seen (a .t1)) (a .bytes .now) (a .memory .now) (omega arith))
 
 pub drain-spec : {M : Type 1} → statement M
 drain-spec =

@@ -1,7 +1,9 @@
 -- `step` meets its contract: refused, or the state and the rows are those of the turn.
 use borrow.Author.Needs.{needs}
-use mathlib.Core.Path.{sym}
+use mathlib.Core.Path.{sym, ap, _∙_}
 use native.Mathlib.Omega.{arith}
+use Rattle.rules.specs.Step.{Turned}
+use Rattle.rules.specs.Calls.{stepped}
 use Rattle.cache.specs.Seen.{seen}
 use Rattle.cache.proofs.Refusals.{step-in, step-refused, step-accepted}
 use Rattle.cache.proofs.State.step.Statement.{statement}
@@ -20,25 +22,26 @@ same-length-2 : tie.Need-same-length-2
 same-length-2 c = search needs
 
 returns : tie.Need-returns
-returns c = rw (c .refuse .ensures .0, c .refuse .ensures .1) (sym (step-refused (seen (c .before .before .before .before .before .before .before .args .t1)) (c .before .before .before .before .before .before .before .args .bytes .now) (c .before .before .before .before .before .before .before .args .memory .now) (c .before .before .before .before .before .before .before .args .x) (c .before .before .step-refusal .result) (c .before .before .step-refusal .ensures) (omega arith)))
+returns c = let a = c .before .before .before .before .before .before .before .args in
+    rw (c .refuse .ensures .0, c .refuse .ensures .1) (sym (step-refused (seen (a .t1)) (a .bytes .now) (a .memory .now) (a .x) (c .before .before .step-refusal .result) (c .before .before .step-refusal .ensures) (omega arith)))
 
 mul-tracker : tie.Need-mul-tracker
-mul-tracker c = omega (arith, step-in (seen (c .before .before .before .before .before .before .args .t1)) (c .before .before .before .before .before .before .args .bytes .now) (c .before .before .before .before .before .before .args .memory .now) (c .before .before .before .before .before .before .args .x) (omega arith))
+mul-tracker c = let a = c .before .before .before .before .before .before .args in omega (arith, step-in (seen (a .t1)) (a .bytes .now) (a .memory .now) (a .x) (omega arith))
 
 element-copy-out-tracker : tie.Need-element-copy-out-tracker
-element-copy-out-tracker c = omega (arith, step-in (seen (c .before .before .before .before .before .before .args .t1)) (c .before .before .before .before .before .before .args .bytes .now) (c .before .before .before .before .before .before .args .memory .now) (c .before .before .before .before .before .before .args .x) (omega arith))
+element-copy-out-tracker c = let a = c .before .before .before .before .before .before .args in omega (arith, step-in (seen (a .t1)) (a .bytes .now) (a .memory .now) (a .x) (omega arith))
 
 cast-turn-row : tie.Need-cast-turn-row
-cast-turn-row c = omega (arith, step-in (seen (c .before .before .before .before .before .before .before .args .t1)) (c .before .before .before .before .before .before .before .args .bytes .now) (c .before .before .before .before .before .before .before .args .memory .now) (c .before .before .before .before .before .before .before .args .x) (omega arith))
+cast-turn-row c = let a = c .before .before .before .before .before .before .before .args in omega (arith, step-in (seen (a .t1)) (a .bytes .now) (a .memory .now) (a .x) (omega arith))
 
 turn-row-requires : tie.Need-turn-row-requires
 turn-row-requires c κs = search needs
 
 mul-left : tie.Need-mul-left
-mul-left c = omega (arith, step-in (seen (c .before .before .before .before .before .before .before .before .before .before .before .before .before .before .before .before .args .t1)) (c .before .before .before .before .before .before .before .before .before .before .before .before .before .before .before .before .args .bytes .now) (c .before .before .before .before .before .before .before .before .before .before .before .before .before .before .before .before .args .memory .now) (c .before .before .before .before .before .before .before .before .before .before .before .before .before .before .before .before .args .x) (omega arith))
+mul-left c = let a = c .before .before .before .before .before .before .before .before .before .before .before .before .before .before .before .before .args in omega (arith, step-in (seen (a .t1)) (a .bytes .now) (a .memory .now) (a .x) (omega arith))
 
 element-set-from-left : tie.Need-element-set-from-left
-element-set-from-left c = omega (arith, step-in (seen (c .before .before .before .before .before .before .before .before .before .before .before .before .before .before .before .before .args .t1)) (c .before .before .before .before .before .before .before .before .before .before .before .before .before .before .before .before .args .bytes .now) (c .before .before .before .before .before .before .before .before .before .before .before .before .before .before .before .before .args .memory .now) (c .before .before .before .before .before .before .before .before .before .before .before .before .before .before .before .before .args .x) (omega arith))
+element-set-from-left c = let a = c .before .before .before .before .before .before .before .before .before .before .before .before .before .before .before .before .args in omega (arith, step-in (seen (a .t1)) (a .bytes .now) (a .memory .now) (a .x) (omega arith))
 
 same-length-3 : tie.Need-same-length-3
 same-length-3 c = search needs
@@ -47,7 +50,8 @@ same-length-4 : tie.Need-same-length-4
 same-length-4 c = search needs
 
 returns-2 : tie.Need-returns-2
-returns-2 c = rw (c .before .before .before .before .before .turn-row .ensures .said, c .before .before .before .before .before .turn-row .ensures .hand, c .before .before .before .before .before .turn-row .ensures .tracker, c .before .before .before .before .before .turn-row .ensures .lines, c .before .before .before .before .before .turn-row .ensures .bytes, c .before .before .before .before .before .turn-row .ensures .memory) (sym (step-accepted (seen (c .before .before .before .before .before .before .before .before .before .before .before .before .before .before .before .before .args .t1)) (c .before .before .before .before .before .before .before .before .before .before .before .before .before .before .before .before .args .bytes .now) (c .before .before .before .before .before .before .before .before .before .before .before .before .before .before .before .before .args .memory .now) (c .before .before .before .before .before .before .before .before .before .before .before .before .before .before .before .before .args .x) (omega arith)))
+returns-2 c = let a = c .before .before .before .before .before .before .before .before .before .before .before .before .before .before .before .before .args in
+    ap (λ (y : Turned). stepped (seen (a .t1)) (a .x) y) (c .before .before .before .before .before .turn-row .ensures) ∙ sym (step-accepted (seen (a .t1)) (a .bytes .now) (a .memory .now) (a .x) (omega arith))
 
 pub step-spec : {M : Type 1} → statement M
 step-spec =

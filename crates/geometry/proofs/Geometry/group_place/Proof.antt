@@ -1,6 +1,6 @@
 -- `group_place` is the address rule; the sum fits.
 use borrow.Author.Needs.{needs}
-use Rattle.geometry.specs.TagMemory.{leafOf, byteOf, blockPlace}
+use Rattle.geometry.specs.TagMemory.{leafOf, byteOf}
 use Rattle.geometry.proofs.Geometry.group_place.Statement.{statement}
 use Rattle.geometry.proofs.Geometry.group_place.Tie as tie
 
@@ -14,11 +14,11 @@ byte-of-requires : tie.Need-byte-of-requires
 byte-of-requires c κs = search needs
 
 add-result : tie.Need-add-result
-unfolding byteOf blockPlace
+unfolding byteOf
 add-result c = search needs
 
 returns : tie.Need-returns
-unfolding blockPlace leafOf byteOf
+unfolding leafOf byteOf
 returns c = search needs
 
 pub group-place-spec : {M : Type 1} → statement M
