@@ -4,7 +4,7 @@ use mathlib.Core.Bool.{Bool, true, false, not}
 use mathlib.Core.Logic.{_⊎_, inl, inr}
 use Prim.Native.Nat.{ℕ}
 use native.Mathlib.Omega.{arith}
-use Rattle.laws.specs.Choice.{both, implies, no}
+use Rattle.laws.specs.Choice.{both, either, implies, no}
 
 pub not-both-ways : {b : Bool} → b ≡ true → b ≡ false → ⊥
 not-both-ways {b} p q = let z : _≡_ {A = ℕ} 0 1 = cc in omega arith
