@@ -1,7 +1,7 @@
 // Bytes in lent rows: what is not there reads as 0 or as nothing, what has no room is not put.
 
 // The byte at a place, 0 past the end.
-pub fn byte(s: &[u8], at: usize) -> u8 {
+pub(crate) fn byte(s: &[u8], at: usize) -> u8 {
     if at < s.len() {
         return s[at];
     }
@@ -9,7 +9,7 @@ pub fn byte(s: &[u8], at: usize) -> u8 {
 }
 
 // Puts a byte where there is room, and answers the place after it.
-pub fn put(out: &mut [u8], at: usize, b: u8) -> usize {
+pub(crate) fn put(out: &mut [u8], at: usize, b: u8) -> usize {
     if at < out.len() {
         out[at] = b;
         return at + 1;
@@ -17,7 +17,7 @@ pub fn put(out: &mut [u8], at: usize, b: u8) -> usize {
     at
 }
 
-pub fn put_all(out: &mut [u8], at: usize, s: &[u8]) -> usize {
+pub(crate) fn put_all(out: &mut [u8], at: usize, s: &[u8]) -> usize {
     let mut to = at;
     let mut i = 0;
     while i < s.len() {
@@ -28,7 +28,7 @@ pub fn put_all(out: &mut [u8], at: usize, s: &[u8]) -> usize {
 }
 
 // The bytes from a place to another, none where they are not there.
-pub fn part(s: &[u8], from: usize, to: usize) -> &[u8] {
+pub(crate) fn part(s: &[u8], from: usize, to: usize) -> &[u8] {
     if from <= to {
         if to <= s.len() {
             return &s[from..to];
@@ -37,7 +37,7 @@ pub fn part(s: &[u8], from: usize, to: usize) -> &[u8] {
     &s[..0]
 }
 
-pub fn plus(a: usize, b: usize) -> usize {
+pub(crate) fn plus(a: usize, b: usize) -> usize {
     if usize::MAX - a < b {
         return usize::MAX;
     }

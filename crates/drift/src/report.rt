@@ -15,14 +15,14 @@ fn put_decimal(out: &mut [u8], at: usize, n: u64) -> usize {
 }
 
 // Writes out what was put, and answers 0, the place to go on at.
-pub fn flush(out: &[u8], at: usize) -> usize {
+pub(crate) fn flush(out: &[u8], at: usize) -> usize {
     if at <= out.len() {
         io::write_all(1, &out[..at]);
     }
     0
 }
 
-pub fn flush_if(out: &[u8], at: usize) -> usize {
+pub(crate) fn flush_if(out: &[u8], at: usize) -> usize {
     if FULL < at {
         return flush(out, at);
     }
@@ -30,7 +30,7 @@ pub fn flush_if(out: &[u8], at: usize) -> usize {
 }
 
 // Names a line that is no line of replay.
-pub fn say_stray(
+pub(crate) fn say_stray(
     x: Side,
     window: &[u8],
     name: &[u8],
@@ -55,7 +55,7 @@ fn wide(x: u32) -> u64 {
 }
 
 // An ending with another turn count.
-pub fn say_drift(p: Pair, number: u64, out: &mut [u8], at: usize) -> usize {
+pub(crate) fn say_drift(p: Pair, number: u64, out: &mut [u8], at: usize) -> usize {
     if p.drift() == 0 {
         return at;
     }
@@ -82,7 +82,7 @@ fn say_farthest(t: Tally, out: &mut [u8], at: usize) -> usize {
 }
 
 // The five lines.
-pub fn say_tally(t: Tally, out: &mut [u8], at: usize) -> usize {
+pub(crate) fn say_tally(t: Tally, out: &mut [u8], at: usize) -> usize {
     let p = say_number(b"endings ", t.endings, out, at);
     let q = say_number(b"\ndrifted ", t.drifted, out, p);
     let r = say_farthest(t, out, q);
@@ -92,7 +92,7 @@ pub fn say_tally(t: Tally, out: &mut [u8], at: usize) -> usize {
 }
 
 // A sentence on standard error.
-pub fn complain(name: &[u8]) {
+pub(crate) fn complain(name: &[u8]) {
     io::write_all(2, b"drift: the file ");
     io::write_all(2, name);
     io::write_all(2, b" cannot be read\n");

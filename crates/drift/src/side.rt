@@ -17,7 +17,7 @@ pub struct Side {
     pub long: bool,
 }
 
-pub fn open(name: &[u8]) -> Side {
+pub(crate) fn open(name: &[u8]) -> Side {
     let fd = os::open_read(name);
     Side {
         fd,
@@ -112,7 +112,7 @@ fn look(x: Side, window: &[u8]) -> Side {
 }
 
 // The next line.
-pub fn advance(x: Side, window: &mut [u8]) -> Side {
+pub(crate) fn advance(x: Side, window: &mut [u8]) -> Side {
     let mut next = x;
     next.from = x.next;
     next.line = false;
@@ -133,7 +133,7 @@ pub fn advance(x: Side, window: &mut [u8]) -> Side {
 }
 
 // Whether the present line is a line of replay; one longer than the window is none.
-pub fn is_line(x: Side, window: &[u8]) -> bool {
+pub(crate) fn is_line(x: Side, window: &[u8]) -> bool {
     if x.long {
         return false;
     }

@@ -3,16 +3,13 @@ use mathlib.Core.Path.{_≡_, sym, _∙_}
 use mathlib.Core.List.{List}
 use mathlib.Core.Bool.{Bool}
 use Prim.Native.Nat.{ℕ}
-use Rattle.line.specs.Word.{used, blockOf, changed, holder, held, has, word, heldBy, cleaned}
+use Rattle.line.specs.Word.{blockOf, changed, holder, held, has, word, heldBy, cleaned}
 use Rattle.line.specs.Find.{lineOf, lowestFree, looseFrom, victim, after}
 
 one : {A : Type 0} {d : A} (a b : A) → a ≡ d → b ≡ d → a ≡ b
 one a b p q = p ∙ sym q
 
 module _ (w h : ℕ) where
-  pub one-used : (a b : Bool) → a ≡ used w → b ≡ used w → a ≡ b
-  one-used = one
-
   pub one-block-of : (a b : ℕ) → a ≡ blockOf w → b ≡ blockOf w → a ≡ b
   one-block-of = one
 

@@ -2,18 +2,11 @@
 // No public function has a `requires`: a line that the row does not have reads as 0, which is free.
 ghost use mathlib.Core.Path.{_≡_};
 ghost use Prim.Native.Nat.{min};
-ghost use Rattle.line.specs.Word.{used, blockOf, changed, holder, held, has, word, heldBy, cleaned};
+ghost use Rattle.line.specs.Word.{blockOf, changed, holder, held, has, word, heldBy, cleaned};
 ghost use Rattle.line.specs.Find.{lineOf, lowestFree, looseFrom, victim, after};
 
 // The trackers that a line can name.
 pub const HOLDERS: u32 = 127;
-
-// The line holds a block.
-pub fn used(w: u32) -> bool
-    ensures { λ r. ⌜ r ≡ used w ⌝ }
-{
-    0 < w
-}
 
 // The block that a used line holds.
 pub fn block_of(w: u32) -> u32
