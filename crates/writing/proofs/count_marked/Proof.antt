@@ -1,6 +1,6 @@
 -- `writing::count_marked` meets its contract: m counts the leaves with bit 1 of the words before word i.
 use mathlib.Core.Path.{_≡_, ap, sym, _∙_}
-use Prim.Native.Nat.{_+_, _*_, _-_, _/_, _≤_, _<_}
+use Prim.Native.Nat.{_+_, _*_, _-_, _/_, _≤_}
 use native.Mathlib.Omega.{arith}
 use lib.ListN.{length}
 use Rattle.laws.specs.Bytes.{Bytes}
