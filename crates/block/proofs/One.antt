@@ -4,7 +4,7 @@ use mathlib.Core.Bool.{Bool}
 use mathlib.Core.List.{List}
 use Prim.Native.Nat.{ℕ}
 use Rattle.laws.specs.Choice.{pick}
-use Rattle.laws.specs.Bytes.{part, fits, putW}
+use Rattle.laws.specs.Bytes.{part, fits, putW, value}
 use Rattle.laws.specs.Bits.{bitOf}
 use Rattle.geometry.proofs.One.{one}
 use Rattle.block.specs.Block.{blockOr0, groupAt, putGroup, bitAt, putBit, allZero}
@@ -18,6 +18,9 @@ read-block-one m at = one
 pub copy-block-one : (m : List ℕ) (at : ℕ) (row : List ℕ) (from : ℕ) {r s : List ℕ} → r ≡ pick (fits row from 64) (putW 64 m at (part row from 64)) m
     → s ≡ pick (fits row from 64) (putW 64 m at (part row from 64)) m → r ≡ s
 copy-block-one m at row from = one
+
+pub number-at-one : (m : List ℕ) (at : ℕ) {r s : ℕ} → r ≡ value (part m at 4) → s ≡ value (part m at 4) → r ≡ s
+number-at-one m at = one
 
 pub group-at-one : (m : List ℕ) (at : ℕ) {r s : ℕ} → r ≡ groupAt m at → s ≡ groupAt m at → r ≡ s
 group-at-one m at = one

@@ -6,12 +6,13 @@ use mathlib.Core.Logic.{⊎-elim}
 use Prim.Native.Nat.{ℕ, zero, suc, _+_, _≤_, _<_}
 use native.Mathlib.Numerals.{add-one}
 use native.Mathlib.Omega.{arith}
+use lib.Bits.{bitOr, or-zero-r, or-add-and, and-le-l}
 use lib.Dec.{eqb}
 use lib.ListN.{length, getD}
 use borrow.Author.Tests.{eqb-true, eqb-false, eq-eqb, ne-eqb}
 use Rattle.laws.specs.Choice.{both}
 use Rattle.laws.specs.Scan.{all}
-use Rattle.laws.proofs.Choice.{not-both-ways, true-or-false, both-false-left, both-false-right}
+use Rattle.laws.proofs.Choice.{not-both-ways, true-or-false, both-false-right}
 use Rattle.laws.proofs.Scan.{all-at, all-is, all-fails}
 use Rattle.laws.proofs.Splice.{lt-or-ge}
 use Rattle.block.specs.Block.{allZero}
@@ -73,16 +74,15 @@ module _ (m : List ℕ) (i : ℕ) where
   pub zero-less : (getD m i 0 ≡ 0 → ⊥) → zeroBelow m (i + 1) ≡ false
   zero-less h = zero-next ∙ both-false-right (zeroBelow m i) _ (ne-eqb (getD m i 0) 0 h)
 
-  -- the largest byte so far is zero exactly if they all are
-  pub most-new : (most : ℕ) → most < getD m i 0 → eqb (getD m i 0) 0 ≡ zeroBelow m (i + 1)
-  most-new most h = let ne : getD m i 0 ≡ 0 → ⊥ = λ z. absurd (omega arith) in ne-eqb _ _ ne ∙ sym (zero-less ne)
-
-  pub most-stays : (most : ℕ) → eqb most 0 ≡ zeroBelow m i → getD m i 0 ≤ most → eqb most 0 ≡ zeroBelow m (i + 1)
-  most-stays most e h =
+  -- the bits that are 1 in any byte so far are none exactly if all bytes are zero
+  pub any-more : (any : ℕ) → eqb any 0 ≡ zeroBelow m i → eqb (bitOr any (getD m i 0)) 0 ≡ zeroBelow m (i + 1)
+  any-more any e =
       ⊎-elim
-      (λ (q : most < 1). let z : getD m i 0 ≡ 0 = omega arith in e ∙ sym (zero-more z))
-      (λ (q : 1 ≤ most). let f : eqb most 0 ≡ false = ne-eqb most 0 (λ z. absurd (omega arith)) in f ∙ sym (zero-next ∙ both-false-left _ _ (sym e ∙ f)))
-      (lt-or-ge most 1)
+      (λ (q : getD m i 0 < 1). let z : getD m i 0 ≡ 0 = omega arith in rw z (ap (λ (x : ℕ). eqb x 0) (or-zero-r any)) ∙ e ∙ sym (zero-more z))
+      (λ (q : 1 ≤ getD m i 0).
+      let ne : getD m i 0 ≡ 0 → ⊥ = λ z. absurd (omega arith) in
+      ne-eqb _ _ (λ (z : bitOr any (getD m i 0) ≡ 0). absurd (omega (arith, or-add-and any (getD m i 0), and-le-l any (getD m i 0)))) ∙ sym (zero-less ne))
+      (lt-or-ge (getD m i 0) 1)
 
   pub zero-end : i ≡ length m → zeroBelow m i ≡ allZero m
   unfolding allZero

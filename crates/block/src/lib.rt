@@ -3,9 +3,9 @@
 use geometry::Geometry;
 ghost use mathlib.Core.Path.{_≡_};
 ghost use Prim.Native.Nat.{_+_, _*_, _^_, _≤_, _<_};
-ghost use lib.ListN.{length, replicate};
+ghost use lib.ListN.{length, getD, replicate};
 ghost use Rattle.laws.specs.Choice.{pick};
-ghost use Rattle.laws.specs.Bytes.{part, splice, fits, putW, bytes, numberAt};
+ghost use Rattle.laws.specs.Bytes.{part, splice, fits, putW, value, bytes, numberAt};
 ghost use Rattle.laws.specs.Bits.{bitOf, withBit};
 ghost use Rattle.block.specs.Block.{blockOr0, groupAt, putGroup, bitAt, putBit, allZero};
 
@@ -22,6 +22,34 @@ fn word_at(row: &[u8], at: usize) -> u32
     ensures { λ r. ⌜ r ≡ numberAt 4 (now (row .entry)) at ⌝ }
 {
     join(row[at], row[at + 1], row[at + 2], row[at + 3])
+}
+
+// The byte at `at`; 0 where there is none.
+fn byte_at(row: &[u8], at: usize) -> u8
+    ensures { λ r. ⌜ r ≡ getD (now (row .entry)) at 0 ⌝ }
+{
+    if row.len() <= at {
+        return 0;
+    }
+    row[at]
+}
+
+// The number whose four bytes begin at `at`; a byte that is not there counts 0.
+pub fn number_at(row: &[u8], at: usize) -> u32
+    ensures { λ r. ⌜ r ≡ value (part (now (row .entry)) at 4) ⌝ }
+{
+    if row.len() <= at {
+        return 0;
+    }
+    if Geometry::GROUP_LEN <= row.len() - at {
+        return word_at(row, at);
+    }
+    join(
+        row[at],
+        byte_at(row, at + 1),
+        byte_at(row, at + 2),
+        byte_at(row, at + 3),
+    )
 }
 
 // The number v into the four bytes from `at`.
@@ -138,20 +166,17 @@ pub fn put_group(row: &mut [u8], at: usize, v: u32)
     put_word(row, at, v);
 }
 
-// Every byte is zero: the largest one is.
+// Every byte is zero: no bit is 1 in any of them.
 pub fn all_zero(row: &[u8]) -> bool
     ensures { λ r. ⌜ r ≡ allZero (now (row .entry)) ⌝ }
 {
-    let mut most: u8 = 0;
+    let mut any: u8 = 0;
     let mut i = 0;
     while i < row.len() {
-        let byte = row[i];
-        if most < byte {
-            most = byte;
-        }
+        any = any | row[i];
         i += 1;
     }
-    most == 0
+    any == 0
 }
 
 // Every byte is made zero.

@@ -1,8 +1,9 @@
 -- Laws of the records of a memory: each is the record of a leaf with bit 1, they rise, and the record blocks have their lengths.
 use mathlib.Core.Path.{_≡_, refl, ap, sym, _∙_}
 use mathlib.Core.List.{List, [], _∷_, _++_, append-nil}
+use mathlib.Core.Bool.{true, false}
 use mathlib.Core.Logic.{_⊎_, inl, inr, ⊎-elim}
-use Prim.Native.Nat.{ℕ, zero, suc, _+_, _*_, _/_, _-_, _≤_, _<_}
+use Prim.Native.Nat.{ℕ, zero, suc, _+_, _*_, _-_, _≤_, _<_}
 use native.Mathlib.Nat.{eq-or-lt-of-le, le-of-suc-le-suc, not-suc-le-zero}
 use native.Mathlib.Numerals.{add-one}
 use native.Mathlib.Omega.{arith}
@@ -11,12 +12,10 @@ use lib.Seq.{getD-at}
 use lib.Dec.{eqb, leb}
 use borrow.Author.Tests.{eq-eqb, ne-eqb, eqb-true, eqb-false, le-leb, lt-leb}
 use Rattle.laws.specs.Bytes.{part, bytes}
+use Rattle.laws.specs.Scan.{count}
 use Rattle.laws.proofs.Choice.{true-or-false, both-true, both-false-left, both-false-right}
 use Rattle.laws.proofs.Splice.{lt-or-ge, length-part′}
 use Rattle.laws.proofs.Value.{length-bytes}
-use Rattle.geometry.specs.TagMemory.{mapPlace, mapBitOf}
-use Rattle.geometry.proofs.Places.{mapPlace-is}
-use Rattle.block.proofs.BitsOf.{bitAt-zero}
 use Rattle.memory.specs.PlainReading.{leafBit}
 use Rattle.sums.specs.Check.{checkOf}
 use Rattle.sums.proofs.Right.{length-check}
@@ -36,10 +35,6 @@ module _ (n : ℕ) (mem : List ℕ) where
   pub below-none : recordsBelow n mem 0 ≡ []
   unfolding recordsBelow
   below-none = refl
-
-  unmarked : (k : ℕ) → getD mem (mapPlace n k) 0 ≡ 0 → leafBit n mem k ≡ 0
-  unfolding leafBit
-  unmarked k z = bitAt-zero mem (mapPlace n k) (mapBitOf k) z
 
   -- either way, as `suc`
   below-either : (k : ℕ) → ((leafBit n mem k ≡ 1) × (recordsBelow n mem (suc k) ≡ recordsBelow n mem k ++ (recordOf mem k ∷ []))) ⊎ (recordsBelow n mem (suc k) ≡ recordsBelow n mem k)
@@ -90,18 +85,28 @@ module _ (n : ℕ) (mem : List ℕ) where
       (below-either j))
       (eq-or-lt-of-le (le-of-suc-le-suc h))
 
-  -- the leaves of a map byte that is zero are passed over
-  pub below-byte : (j i : ℕ) → getD mem (mapPlace n j) 0 ≡ 0 → j ≤ i → i ≤ j / 8 * 8 + 8 → recordsBelow n mem i ≡ recordsBelow n mem j
-  below-byte j zero z a b = let e : j ≡ 0 = omega arith in rw e refl
-  below-byte j (suc i) z a b =
+  -- leaves without bit 1 are passed over
+  pub below-unmarked : (j i : ℕ) → j ≤ i → ((k : ℕ) → j ≤ k → k < i → leafBit n mem k ≡ 0) → recordsBelow n mem i ≡ recordsBelow n mem j
+  below-unmarked j zero a z = let e : j ≡ 0 = omega arith in rw e refl
+  below-unmarked j (suc i) a z =
       ⊎-elim
       (λ (e : j ≡ suc i). rw e refl)
       (λ (l : j < suc i).
-      let q : i / 8 ≡ j / 8 = omega arith in
-      let p : mapPlace n i ≡ mapPlace n j = omega (arith, mapPlace-is n i, mapPlace-is n j) in
-      let o : leafBit n mem i ≡ 0 = unmarked i (ap (λ (x : ℕ). getD mem x 0) p ∙ z) in
-      ap (recordsBelow n mem) (sym (add-one i)) ∙ below-skip i (λ b. absurd (omega arith)) ∙ below-byte j i z (omega arith) (omega arith))
+      let o : leafBit n mem i ≡ 0 = z i (omega arith) (omega arith) in
+      ap (recordsBelow n mem) (sym (add-one i)) ∙ below-skip i (λ b. absurd (omega arith)) ∙ below-unmarked j i (omega arith) (λ k g q. z k g (omega arith)))
       (eq-or-lt-of-le a)
+
+  -- as many records more as leaves with bit 1
+  pub length-more : (a d : ℕ) → length (recordsBelow n mem (a + d)) ≡ length (recordsBelow n mem a) + count (λ x. eqb (leafBit n mem (a + x)) 1) d
+  unfolding count
+  length-more a zero = let e : a + zero ≡ a = omega arith in rw e (omega arith)
+  length-more a (suc d) =
+      let e : a + suc d ≡ a + d + 1 = omega arith in
+      rw e
+      (⊎-elim
+      (λ (h : eqb (leafBit n mem (a + d)) 1 ≡ true). rw h (omega (arith, length-take (a + d) (eqb-true _ _ h), length-more a d)))
+      (λ (h : eqb (leafBit n mem (a + d)) 1 ≡ false). rw h (omega (arith, ap length (below-skip (a + d) (eqb-false _ _ h)), length-more a d)))
+      (true-or-false (eqb (leafBit n mem (a + d)) 1)))
 
 -- record p of the leaves below leaf j is that of a leaf
 pub record Marked (n : ℕ) (mem : List ℕ) (j p : ℕ) : Type 0 where

@@ -1,16 +1,24 @@
 -- Laws of bits.
 use mathlib.Core.Path.{_≡_, refl, ap, sym, _∙_}
 use mathlib.Core.Bool.{Bool}
+use mathlib.Core.List.{List}
+use mathlib.Core.Logic.{_⊎_, inl, inr, ⊎-elim}
 use Prim.Native.Nat.{ℕ, zero, suc, _+_, _-_, _*_, _/_, _%_, _^_, _≤_, _<_}
 use native.Mathlib.Nat.{pow-succ', div-div-eq-div-mul, div-add-mod', div-le-self, mod-lt}
 use native.Mathlib.Omega.{arith}
-use lib.Count.{ones, ones-step, ones-le, ones-cat}
+use lib.Arith.{digits-div}
+use lib.Bits.{bitAnd, and-step, and-self, block-half, block-odd}
+use lib.Count.{ones, ones-step, ones-le, ones-cat, trailingZeros}
 use lib.Dec.{eqb}
+use lib.ListN.{getD}
 use lib.Pow.{pow-add, pow-pos, shr-lt}
 use Rattle.laws.specs.Choice.{one}
 use Rattle.laws.specs.Bits.{bitOf, withBit}
+use Rattle.laws.specs.Bytes.{part, value, Bytes}
 use Rattle.laws.specs.Scan.{count, countFrom}
 use Rattle.laws.proofs.Scan.{count-front, countFrom-0, countFrom-add, countFrom-shift, countFrom-same}
+use Rattle.laws.proofs.Splice.{lt-or-ge}
+use Rattle.laws.proofs.Value.{value-step-any}
 
 -- what holds at each of 0 to 7 holds below 8
 pub cases8 : (P : ℕ → Type 0) → P 0 → P 1 → P 2 → P 3 → P 4 → P 5 → P 6 → P 7 → (k : ℕ) → k < 8 → P k
@@ -113,7 +121,7 @@ ones-count (suc w) x h =
     let b : one (eqb (x % 2) 1) ≡ x % 2 = one-bit (x % 2) (omega arith) in
     ones-step x ∙ rw (ones-count w (x / 2) l) (sym (count-front (isSet x) w ∙ rw b))
 
-bitOf-shr : (x s i : ℕ) → bitOf (x / 2 ^ s) i ≡ bitOf x (s + i)
+pub bitOf-shr : (x s i : ℕ) → bitOf (x / 2 ^ s) i ≡ bitOf x (s + i)
 bitOf-shr x s i = bitOf-shift (x / 2 ^ s) i ∙ rw (div-div-eq-div-mul x (2 ^ s) (2 ^ i), ← pow-add 2 s i) (sym (bitOf-shift x (s + i)))
 
 -- the bits below w, and those from w on
@@ -147,3 +155,96 @@ ones-between x s t h l m =
     let f : countFrom (isSet x) s t ≡ countFrom (λ (i : ℕ). isSet x (s + i)) 0 w = rw (a, b) at (countFrom-shift (isSet x) s 0 w) in
     ones-low z w (8 - w) d ∙ sym (countFrom-0 (isSet z) w)
     ∙ countFrom-same (isSet z) (λ (i : ℕ). isSet x (s + i)) 0 w (λ k g q. ap (λ (y : ℕ). eqb y 1) (bitOf-shr x s k)) ∙ sym f
+
+-- the bits of a number of two parts, the lower one w bits wide
+pub bitOf-low : (w k a r : ℕ) → k < w → bitOf (a * 2 ^ w + r) k ≡ bitOf r k
+unfolding bitOf
+bitOf-low zero k a r h = absurd (omega arith)
+bitOf-low (suc w) zero a r h = block-odd a w r
+bitOf-low (suc w) (suc k) a r h = rw (block-half a w r) (bitOf-low w k a (r / 2) (omega arith))
+
+pub bitOf-high : (w k a r : ℕ) → r < 2 ^ w → bitOf (a * 2 ^ w + r) (w + k) ≡ bitOf a k
+bitOf-high w k a r h = sym (bitOf-shr (a * 2 ^ w + r) w k) ∙ ap (λ (x : ℕ). bitOf x k) (digits-div a h)
+
+-- bit i of a number of w bytes is bit i mod 8 of its byte i / 8
+pub value-bit : (l : List ℕ) → Bytes l → (a w i : ℕ) → i < 8 * w → bitOf (value (part l a w)) i ≡ bitOf (getD l (a + i / 8) 0) (i % 8)
+unfolding Bytes
+value-bit l B a zero i h = absurd (omega arith)
+value-bit l B a (suc w) i h =
+    let v : ℕ = value (part l (a + 1) w) in
+    let e : value (part l a (suc w)) ≡ v * 2 ^ 8 + getD l a 0 = omega (arith, value-step-any l a w) in
+    rw e (⊎-elim
+    (λ (q : i < 8).
+    let x : a + i / 8 ≡ a = omega arith in
+    let y : i % 8 ≡ i = omega arith in
+    rw (x, y) (bitOf-low 8 i v (getD l a 0) q))
+    (λ (q : 8 ≤ i).
+    let x : 8 + (i - 8) ≡ i = omega arith in
+    let y : a + 1 + (i - 8) / 8 ≡ a + i / 8 = omega arith in
+    let z : (i - 8) % 8 ≡ i % 8 = omega arith in
+    ap (bitOf (v * 2 ^ 8 + getD l a 0)) (sym x) ∙ bitOf-high 8 (i - 8) v (getD l a 0) (B a) ∙ rw (y, z) at (value-bit l B (a + 1) w (i - 8) (omega arith)))
+    (lt-or-ge i 8))
+
+-- the lowest one of a number: that it is there, and that the bits below it are 0
+even-or-odd : (x : ℕ) → (x % 2 ≡ 0) ⊎ (x % 2 ≡ 1)
+even-or-odd x = ⊎-elim (λ (h : x % 2 < 1). inl (omega arith)) (λ (h : 1 ≤ x % 2). inr (omega arith)) (lt-or-ge (x % 2) 1)
+
+pub lowest-one : (w x : ℕ) → 0 < x → x < 2 ^ w → (trailingZeros w x < w) × (bitOf x (trailingZeros w x) ≡ 1)
+unfolding trailingZeros bitOf
+lowest-one zero x p h = absurd (omega arith)
+lowest-one (suc w) x p h =
+    ⊎-elim
+    (λ (e : x % 2 ≡ 0). let q : (trailingZeros w (x / 2) < w) × (bitOf (x / 2) (trailingZeros w (x / 2)) ≡ 1) = lowest-one w (x / 2) (omega arith) (omega (arith, pow-succ' 2 w)) in rw e (omega arith, q .1))
+    (λ (e : x % 2 ≡ 1). rw e (omega arith, e))
+    (even-or-odd x)
+
+pub lowest-below : (w x k : ℕ) → k < trailingZeros w x → bitOf x k ≡ 0
+unfolding trailingZeros bitOf
+lowest-below zero x k h = absurd (omega arith)
+lowest-below (suc w) x zero h =
+    ⊎-elim (λ (e : x % 2 ≡ 0). e) (λ (e : x % 2 ≡ 1). let z : 0 < 0 = rw e at h in absurd (omega arith)) (even-or-odd x)
+lowest-below (suc w) x (suc k) h =
+    ⊎-elim
+    (λ (e : x % 2 ≡ 0). let z : suc k < suc (trailingZeros w (x / 2)) = rw e at h in lowest-below w (x / 2) k (omega arith))
+    (λ (e : x % 2 ≡ 1). let z : suc k < 0 = rw e at h in absurd (omega arith))
+    (even-or-odd x)
+
+-- without its lowest one a number has its other bits
+off-even : (x : ℕ) → 0 < x → x % 2 ≡ 0 → bitAnd x (x - 1) ≡ bitAnd (x / 2) (x / 2 - 1) * 2
+off-even x p e =
+    let f : (x - 1) / 2 ≡ x / 2 - 1 = omega arith in
+    let g : (x - 1) % 2 ≡ 1 = omega arith in
+    and-step x (x - 1) ∙ rw (e, f, g) (omega arith)
+
+off-odd : (x : ℕ) → x % 2 ≡ 1 → bitAnd x (x - 1) ≡ x / 2 * 2
+off-odd x e =
+    let f : (x - 1) / 2 ≡ x / 2 = omega arith in
+    let g : (x - 1) % 2 ≡ 0 = omega arith in
+    and-step x (x - 1) ∙ rw (e, f, g, and-self (x / 2)) (omega arith)
+
+bitOf-twice : (y k : ℕ) → bitOf (y * 2) (suc k) ≡ bitOf y k
+unfolding bitOf
+bitOf-twice y k = let e : y * 2 / 2 ≡ y = omega arith in rw e refl
+
+pub lowest-off : (w x : ℕ) → 0 < x → x < 2 ^ w → bitOf (bitAnd x (x - 1)) (trailingZeros w x) ≡ 0
+unfolding trailingZeros bitOf
+lowest-off zero x p h = absurd (omega arith)
+lowest-off (suc w) x p h =
+    ⊎-elim
+    (λ (e : x % 2 ≡ 0). rw (off-even x p e) (rw e (bitOf-twice (bitAnd (x / 2) (x / 2 - 1)) (trailingZeros w (x / 2)) ∙ lowest-off w (x / 2) (omega arith) (omega (arith, pow-succ' 2 w)))))
+    (λ (e : x % 2 ≡ 1). rw (off-odd x e) (rw e (omega arith)))
+    (even-or-odd x)
+
+pub others-stay : (w x k : ℕ) → 0 < x → x < 2 ^ w → (k ≡ trailingZeros w x → ⊥) → bitOf (bitAnd x (x - 1)) k ≡ bitOf x k
+unfolding trailingZeros bitOf
+others-stay zero x k p h n = absurd (omega arith)
+others-stay (suc w) x zero p h n =
+    ⊎-elim
+    (λ (e : x % 2 ≡ 0). rw (off-even x p e, e) (omega arith))
+    (λ (e : x % 2 ≡ 1). absurd (n (rw e refl)))
+    (even-or-odd x)
+others-stay (suc w) x (suc k) p h n =
+    ⊎-elim
+    (λ (e : x % 2 ≡ 0). rw (off-even x p e) (bitOf-twice (bitAnd (x / 2) (x / 2 - 1)) k ∙ others-stay w (x / 2) k (omega arith) (omega (arith, pow-succ' 2 w)) (λ q. n (rw e (ap suc q)))))
+    (λ (e : x % 2 ≡ 1). rw (off-odd x e) (bitOf-twice (x / 2) k))
+    (even-or-odd x)

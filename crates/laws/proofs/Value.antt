@@ -1,13 +1,15 @@
 -- Numbers as bytes, low first, of any width.
 use mathlib.Core.Path.{_≡_, refl, ap, _∙_}
 use mathlib.Core.List.{List, [], _∷_, append-assoc}
+use mathlib.Core.Logic.{⊎-elim}
 use Prim.Native.Nat.{ℕ, zero, suc, _+_, _*_, _/_, _%_, _^_, _≤_, _<_}
 use native.Mathlib.Nat.{pow-succ'}
 use native.Mathlib.Omega.{arith}
 use borrow.Author.Tests.{le-leb, lt-leb}
-use lib.ListN.{length, take, drop, getD, set}
-use lib.Seq.{drop-cons, sets, sets-eq}
+use lib.ListN.{length, take, drop, getD, set, drop-of-length-le, List·getD-eq-default}
+use lib.Seq.{drop-cons, sets, sets-eq, take-nil}
 use Rattle.laws.specs.Bytes.{part, splice, fits, value, bytes, numberAt, Bytes}
+use Rattle.laws.proofs.Splice.{lt-or-ge}
 
 pub length-bytes : (w v : ℕ) → length (bytes w v) ≡ w
 unfolding bytes
@@ -40,6 +42,15 @@ pub value-step : (l : List ℕ) (a w : ℕ) → a < length l → value (part l a
 unfolding value part
 value-step l a w h = let e : suc a ≡ a + 1 = omega arith in rw (drop-cons l a 0 h, e)
 
+-- whether the byte is there or not
+pub value-step-any : (l : List ℕ) (a w : ℕ) → value (part l a (suc w)) ≡ getD l a 0 + 256 * value (part l (a + 1) w)
+unfolding value part
+value-step-any l a w =
+    ⊎-elim
+    (λ (h : a < length l). value-step l a w h)
+    (λ (h : length l ≤ a). let g : length l ≤ a + 1 = omega arith in rw (drop-of-length-le l h, List·getD-eq-default l 0 h, drop-of-length-le l g, take-nil w))
+    (lt-or-ge a (length l))
+
 pub value-none : (l : List ℕ) (a : ℕ) → value (part l a 0) ≡ 0
 unfolding value part
 value-none l a = refl
@@ -58,14 +69,21 @@ value-2 l a h =
     let e2 : a + 1 + 1 ≡ a + 2 = omega arith in
     omega (arith, z, value-step l a 1 (omega arith), rw e2 at (value-step l (a + 1) 0 (omega arith)))
 
-pub value-4 : (l : List ℕ) (a : ℕ) → a + 4 ≤ length l
-    → value (part l a 4) ≡ getD l a 0 + 256 * getD l (a + 1) 0 + 65536 * getD l (a + 2) 0 + 16777216 * getD l (a + 3) 0
-value-4 l a h =
+pub value-4-any : (l : List ℕ) (a : ℕ) → value (part l a 4) ≡ getD l a 0 + 256 * getD l (a + 1) 0 + 65536 * getD l (a + 2) 0 + 16777216 * getD l (a + 3) 0
+value-4-any l a =
     let z : value (part l (a + 4) 0) ≡ 0 = value-none l (a + 4) in
     let e2 : a + 1 + 1 ≡ a + 2 = omega arith in
     let e3 : a + 2 + 1 ≡ a + 3 = omega arith in
     let e4 : a + 3 + 1 ≡ a + 4 = omega arith in
-    omega (arith, z, value-step l a 3 (omega arith), rw e2 at (value-step l (a + 1) 2 (omega arith)), rw e3 at (value-step l (a + 2) 1 (omega arith)), rw e4 at (value-step l (a + 3) 0 (omega arith)))
+    omega (arith, z, value-step-any l a 3, rw e2 at (value-step-any l (a + 1) 2), rw e3 at (value-step-any l (a + 2) 1), rw e4 at (value-step-any l (a + 3) 0))
+
+pub value-4 : (l : List ℕ) (a : ℕ) → a + 4 ≤ length l
+    → value (part l a 4) ≡ getD l a 0 + 256 * getD l (a + 1) 0 + 65536 * getD l (a + 2) 0 + 16777216 * getD l (a + 3) 0
+value-4 l a h = value-4-any l a
+
+pub value-past : (l : List ℕ) (a w : ℕ) → length l ≤ a → value (part l a w) ≡ 0
+unfolding value part
+value-past l a w h = rw (drop-of-length-le l h, take-nil w)
 
 -- stores in a row are a write
 pub splice-sets : (vs l : List ℕ) (a : ℕ) → a + length vs ≤ length l → sets l a vs ≡ splice l a vs

@@ -6,7 +6,7 @@ use Prim.Native.Nat.{ℕ}
 use Rattle.laws.specs.Refusal.{refusal}
 use Rattle.geometry.proofs.One.{one}
 use Rattle.memory.specs.PlainReading.{leafBit, plainGroup, sized, plainReading}
-use Rattle.memory.specs.True.{isTrue, clearedMap}
+use Rattle.memory.specs.True.{mapWord, isTrue, clearedMap}
 
 module _ (n : ℕ) (m : List ℕ) where
   pub leaf-bit-one : (k : ℕ) {r s : ℕ} → r ≡ leafBit n m k → s ≡ leafBit n m k → r ≡ s
@@ -20,6 +20,9 @@ module _ (n : ℕ) (m : List ℕ) where
 
   pub plain-reading-one : (g : ℕ) {r s : ℕ} → r ≡ plainReading n m g → s ≡ plainReading n m g → r ≡ s
   plain-reading-one g = one
+
+  pub map-word-one : (i : ℕ) {r s : ℕ} → r ≡ mapWord n m i → s ≡ mapWord n m i → r ≡ s
+  map-word-one i = one
 
   pub is-true-one : {r s : Bool} → r ≡ isTrue n m → s ≡ isTrue n m → r ≡ s
   is-true-one = one

@@ -1,28 +1,11 @@
--- Laws of a part that ends with its row, and of a tail that comes back as zeros.
-use mathlib.Core.Path.{_≡_, sym, _∙_}
-use mathlib.Core.Bool.{true}
-use mathlib.Core.List.{List, [], _++_, append-nil}
+-- Laws of the lengths of parts, and of a tail that comes back as zeros.
+use mathlib.Core.Path.{_≡_}
+use mathlib.Core.List.{List, _++_, append-nil}
 use Prim.Native.Nat.{ℕ, _-_, _≤_, _<_}
 use native.Mathlib.Omega.{arith}
 use borrow.Rule.Slice.PartMut.{putMid}
 use lib.ListN.{length, take, drop, replicate, length-take, length-drop, drop-of-length-le}
-use lib.Seq.{take-all, take-nil}
 use Rattle.laws.specs.Bytes.{part}
-use Rattle.block.specs.Block.{allZero}
-use Rattle.block.proofs.Zero.{allZero-is}
-
--- a part past the end is empty, so all of it is zero
-pub part-past-zero : (m : List ℕ) (a w : ℕ) → length m ≤ a → allZero (part m a w) ≡ true
-unfolding part
-part-past-zero m a w h = rw (drop-of-length-le m h, take-nil w) (allZero-is [] (λ i l. absurd (omega arith)))
-
--- a part that the row ends in is the tail `&m[a..]`
-pub part-tail : (m : List ℕ) (a w : ℕ) → length m - a ≤ w → take (length m - a) (drop a m) ≡ part m a w
-unfolding part
-part-tail m a w h =
-    let e : length (drop a m) ≤ length m - a = simp length-drop (omega arith) in
-    let f : length (drop a m) ≤ w = simp length-drop (omega arith) in
-    take-all (length m - a) (drop a m) e ∙ sym (take-all w (drop a m) f)
 
 -- the tail `&mut m[a..]`, that comes back as zeros
 pub zeros-is : (m : List ℕ) (a : ℕ) → a ≤ length m

@@ -6,7 +6,7 @@ use Prim.Native.Nat.{ℕ, _+_, _-_, _*_, _≤_, _<_}
 use lib.ListN.{length, getD, take, replicate}
 use lib.Dec.{eqb, ltb}
 use Rattle.laws.specs.Choice.{both, implies, no}
-use Rattle.laws.specs.Bytes.{part}
+use Rattle.laws.specs.Bytes.{part, value}
 use Rattle.laws.specs.Scan.{all}
 use Rattle.geometry.specs.TagMemory.{mapBlocks, blockPlace}
 use Rattle.block.specs.Block.{allZero}
@@ -20,9 +20,13 @@ blockAt m b = part m (blockPlace b) 64
 unfoldable pub trueAt : ℕ → List ℕ → ℕ → Bool
 trueAt n m k = implies (eqb (leafBit n m k) 1) (both (ltb k n) (no (allZero (blockAt m k))))
 
--- of the eight bits of the map's byte j
-unfoldable pub trueByte : ℕ → List ℕ → ℕ → Bool
-trueByte n m j = all (λ i. trueAt n m (8 * j + i)) 8
+-- the map's word i, the bits of leaves 32 i to 32 i + 31: four bytes as a number, low byte first
+unfoldable pub mapWord : ℕ → List ℕ → ℕ → ℕ
+mapWord n m i = value (part m (blockPlace n + 4 * i) 4)
+
+-- the same sentence, of its 32 bits
+unfoldable pub trueWord : ℕ → List ℕ → ℕ → Bool
+trueWord n m i = all (λ x. trueAt n m (32 * i + x)) 32
 
 -- "A memory is true when" that holds of every bit of the map blocks
 unfoldable pub isTrue : ℕ → List ℕ → Bool

@@ -3,14 +3,16 @@
 use geometry::Geometry;
 ghost use mathlib.Core.Path.{_≡_};
 ghost use Prim.Native.Nat.{_+_, _*_, _≤_};
-ghost use Rattle.laws.specs.Bytes.{part};
+ghost use lib.ListN.{length};
 ghost use Rattle.laws.specs.Refusal.{refusal};
-ghost use Rattle.block.specs.Block.{allZero};
 ghost use Rattle.memory.specs.PlainReading.{leafBit, plainGroup, sized, plainReading};
-ghost use Rattle.memory.specs.True.{trueAt, trueByte, isTrue, clearedMap};
+ghost use Rattle.memory.specs.True.{mapWord, trueWord, isTrue, clearedMap};
 
 // "4,294,967,296 plus the refusal"
 const REFUSED: u64 = 4294967296;
+
+// The bits of a word of the map.
+const WORD_BITS: u32 = 32;
 
 // Leaf k's bit in a memory of n leaves.
 pub fn leaf_bit(n: u32, memory: &[u8], k: u32) -> u8
@@ -57,65 +59,50 @@ pub fn plain_reading(n: u64, memory: &[u8], g: u64) -> u64
     plain_group(n as u32, memory, g as u32) as u64
 }
 
-// The bytes of the block at `at`, those that are there, are all zero.
-fn block_zero(memory: &[u8], at: usize) -> bool
-    ensures { λ r. ⌜ r ≡ allZero (part (now (memory .entry)) at 64) ⌝ }
+// The bits of leaves 32 i to 32 i + 31 as a number, the bit of leaf 32 i lowest; a byte that is not there counts 0.
+pub fn map_word(n: u32, memory: &[u8], i: u32) -> u32
+    ensures { λ r. ⌜ r ≡ mapWord n (now (memory .entry)) i ⌝ }
 {
-    if memory.len() <= at {
-        return true;
-    }
-    if memory.len() - at < Geometry::BLOCK_LEN {
-        return block::all_zero(&memory[at..]);
-    }
-    block::all_zero(&memory[at..at + Geometry::BLOCK_LEN])
+    block::number_at(
+        memory,
+        Geometry::block_place(n) + Geometry::GROUP_LEN * (i as usize),
+    )
 }
 
-// Leaf k's bit is 0, or leaf k is one of the n and not all zero.
-fn true_at(n: u32, memory: &[u8], k: u32) -> bool
-    ensures { λ r. ⌜ r ≡ trueAt n (now (memory .entry)) k ⌝ }
+// Of the bits of word i of the map, those that are 1: each stands over one of the n leaves, which is not all zero.
+fn word_true(n: u32, memory: &[u8], i: u32) -> bool
+    requires { ⌜ (32 * i + 32 ≤ 4294967296) × (64 * n ≤ length (now memory)) ⌝ }
+    ensures { λ r. ⌜ r ≡ trueWord n (now (memory .entry)) i ⌝ }
 {
-    if leaf_bit(n, memory, k) != 1 {
-        return true;
-    }
-    if n <= k {
-        return false;
-    }
-    !block_zero(memory, Geometry::block_place(k))
-}
-
-// The same of the eight bits of the map's byte j; a byte that is zero or not there has no bit 1.
-fn byte_true(n: u32, memory: &[u8], j: u32) -> bool
-    requires { ⌜ 8 * j + 8 ≤ 4294967296 ⌝ }
-    ensures { λ r. ⌜ r ≡ trueByte n (now (memory .entry)) j ⌝ }
-{
-    let at = Geometry::map_place(n, Geometry::BYTE_BITS * j);
-    if memory.len() <= at {
-        return true;
-    }
-    if memory[at] == 0 {
-        return true;
-    }
-    let mut i = 0;
-    while i < Geometry::BYTE_BITS {
-        if !true_at(n, memory, Geometry::BYTE_BITS * j + i) {
+    let mut bits = map_word(n, memory, i);
+    while bits != 0 {
+        let k = WORD_BITS * i + u32::trailing_zeros(bits);
+        if n <= k {
             return false;
         }
-        i += 1;
+        let at = Geometry::block_place(k);
+        if block::all_zero(&memory[at..at + Geometry::BLOCK_LEN]) {
+            return false;
+        }
+        bits = bits & (bits - 1);
     }
     true
 }
 
-// The memory of n leaves is true.
+// The memory of n leaves is true. The map is read by words: where a word is zero, 32 leaves are passed over.
 pub fn is_true(n: u32, memory: &[u8]) -> bool
     ensures { λ r. ⌜ r ≡ isTrue n (now (memory .entry)) ⌝ }
 {
-    let end = Geometry::BLOCK_LEN as u64 * Geometry::map_blocks(n);
-    let mut j: u64 = 0;
-    while j < end {
-        if !byte_true(n, memory, j as u32) {
+    if memory.len() <= Geometry::block_place(n) {
+        return true;
+    }
+    let end = (Geometry::BITS / WORD_BITS) as u64 * Geometry::map_blocks(n);
+    let mut i: u64 = 0;
+    while i < end {
+        if !word_true(n, memory, i as u32) {
             return false;
         }
-        j += 1;
+        i += 1;
     }
     true
 }

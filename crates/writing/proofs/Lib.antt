@@ -1,3 +1,4 @@
 pub mod Blocks
+pub mod Search
 pub mod Refusals
 pub mod One

@@ -2,71 +2,65 @@
 // A block is written over any records: `put_record` puts each in its place, `close_block` makes the row their block. No public function has a `requires`.
 use geometry::Geometry;
 ghost use mathlib.Core.Path.{_≡_};
+ghost use mathlib.Core.Bool.{true};
 ghost use Prim.Native.Nat.{_+_, _*_, _/_, _-_, _≤_, _<_};
 ghost use lib.ListN.{length};
 ghost use mathlib.Core.List.{_++_};
 ghost use Rattle.laws.specs.Bytes.{splice, putW, bytes};
 ghost use Rattle.geometry.specs.TagMemory.{memoryLength};
 ghost use Rattle.memory.specs.PlainReading.{leafBit};
+ghost use Rattle.memory.specs.True.{isTrue};
 ghost use Rattle.image.specs.Encode.{version2, recordsBytes, headed, blockFront, closed, blockOf, next7, recordBlocks, blocksFor, recordsBelow, recordsOf, imageOf};
 ghost use Rattle.image.specs.Calls.{writingAnswer, written};
 
 const REFUSED: u64 = 4294967296;
 
-// The leaf after j and the others of its map byte, or n.
-fn past_byte(n: u32, j: u32) -> u32
+// The bits of a word of the map.
+const WORD_BITS: u32 = 32;
+
+// The leaf after j and the others of its word of the map, or n.
+fn past_word(n: u32, j: u32) -> u32
     requires { ⌜ j < n ⌝ }
-    ensures { λ r. ⌜ (j < r) × (r ≤ n) × (r ≤ j / 8 * 8 + 8) ⌝ }
+    ensures { λ r. ⌜ (j < r) × (r ≤ n) × (r ≤ j / 32 * 32 + 32) ⌝ }
 {
-    let left = Geometry::BYTE_BITS - j % Geometry::BYTE_BITS;
+    let left = WORD_BITS - j % WORD_BITS;
     if n - j <= left {
         return n;
     }
     j + left
 }
 
-// The first leaf from k on whose map byte is not zero, or n.
-fn pass_zeros(n: u32, memory: &[u8], k: u32) -> u32
-    requires { ⌜ (k ≤ n) × (length (now memory) ≡ memoryLength n) ⌝ }
-    ensures { λ r. ⌜ (k ≤ r) × (r ≤ n) × (recordsBelow n (now (memory .entry)) r ≡ recordsBelow n (now (memory .entry)) k) ⌝ }
-{
-    let mut j = k;
-    while j < n {
-        let at = Geometry::map_place(n, j);
-        if memory[at] != 0 {
-            return j;
-        }
-        j = past_byte(n, j);
-    }
-    j
-}
-
-// The first leaf from k on with bit 1, or n.
+// The first leaf from k on with bit 1, or n. The map is read by words: what is zero of one, from k's bit on, is passed over at once.
 fn next_marked(n: u32, memory: &[u8], k: u32) -> u32
     requires { ⌜ (k ≤ n) × (length (now memory) ≡ memoryLength n) ⌝ }
     ensures { λ r. ⌜ (k ≤ r) × (r ≤ n) × (recordsBelow n (now (memory .entry)) r ≡ recordsBelow n (now (memory .entry)) k) × (r < n → leafBit n (now (memory .entry)) r ≡ 1) ⌝ }
 {
-    let mut j = pass_zeros(n, memory, k);
+    let mut j = k;
     while j < n {
-        let bit = memory::leaf_bit(n, memory, j);
-        if bit == 1 {
-            return j;
+        let rest = memory::map_word(n, memory, j / WORD_BITS) >> (j % WORD_BITS);
+        if rest != 0 {
+            let zeros = u32::trailing_zeros(rest);
+            if n - j <= zeros {
+                return n;
+            }
+            return j + zeros;
         }
-        j = pass_zeros(n, memory, j + 1);
+        j = past_word(n, j);
     }
     j
 }
 
-// The number of leaves with bit 1.
+// The number of leaves with bit 1 of a true memory: the ones of its map, a word at a time.
 fn count_marked(n: u32, memory: &[u8]) -> u32
-    requires { ⌜ length (now memory) ≡ memoryLength n ⌝ }
+    requires { ⌜ (n ≤ 262144) × (length (now memory) ≡ memoryLength n) × (isTrue n (now memory) ≡ true) ⌝ }
     ensures { λ r. ⌜ r ≡ length (recordsOf n (now (memory .entry))) ⌝ }
 {
+    let end = (n + (WORD_BITS - 1)) / WORD_BITS;
     let mut m: u32 = 0;
-    let mut k = next_marked(n, memory, 0);
-    while k < n {
-        m += 1;
-        k = next_marked(n, memory, k + 1);
+    let mut i: u32 = 0;
+    while i < end {
+        m += u32::count_ones(memory::map_word(n, memory, i));
+        i += 1;
     }
     m
 }

@@ -1,4 +1,4 @@
--- The true test, a byte of the map at a time: before each turn every bit of the bytes passed is good.
+-- The true test, a word of the map at a time: before each turn every bit of the words passed is good.
 use mathlib.Core.Path.{_≡_, sym, _∙_}
 use mathlib.Core.Bool.{true}
 use Prim.Native.Nat.{_*_, _-_, _≤_}
@@ -9,15 +9,24 @@ use Rattle.laws.specs.Scan.{all}
 use Rattle.laws.proofs.Scan.{all-zero}
 use Rattle.geometry.specs.TagMemory.{mapBlocks}
 use Rattle.memory.specs.True.{trueAt}
-use Rattle.memory.proofs.Truth.{bytes-more, bytes-all, bytes-fail}
+use Rattle.memory.proofs.Truth.{no-map, words-more, words-all, words-fail}
 use Rattle.memory.proofs.is_true.Statement.{statement}
 use Rattle.memory.proofs.is_true.Tie as tie
 
 abbrev Inv-loop : tie.InvT-loop
-Inv-loop n memory end j₀ j = (j ≤ end) × (end ≡ 64 * mapBlocks n) × (all (trueAt n memory) (8 * j) ≡ true)
+Inv-loop n memory end i₀ i = (i ≤ end) × (end ≡ 16 * mapBlocks n) × (all (trueAt n memory) (32 * i) ≡ true)
 
 abbrev μ-loop : tie.MeasureT-loop
-μ-loop n memory end j₀ j = end - j
+μ-loop n memory end i₀ i = end - i
+
+block-place-requires : tie.Need-block-place-requires Inv-loop μ-loop
+block-place-requires c κs = search needs
+
+returns : tie.Need-returns Inv-loop μ-loop
+returns c = let a = c .before .before .before .args in sym (no-map (a .n) (a .memory .now) (omega (arith, c .before .block-place .ensures)))
+
+cast-end : tie.Need-cast-end Inv-loop μ-loop
+cast-end c = search needs
 
 map-blocks-requires : tie.Need-map-blocks-requires Inv-loop μ-loop
 map-blocks-requires c κs = search needs
@@ -29,37 +38,35 @@ mul-end c = omega arith
 loop-holds : tie.Need-loop-holds Inv-loop μ-loop
 loop-holds c = (omega arith, omega arith, all-zero _)
 
-cast-byte-true : tie.Need-cast-byte-true Inv-loop μ-loop
+cast-word-true : tie.Need-cast-word-true Inv-loop μ-loop
 unfolding mapBlocks
-cast-byte-true c = omega arith
+cast-word-true c = omega arith
 
-byte-true-requires : tie.Need-byte-true-requires Inv-loop μ-loop
+word-true-requires : tie.Need-word-true-requires Inv-loop μ-loop
 unfolding mapBlocks
-byte-true-requires c κs = omega arith
+word-true-requires c κs = (omega arith, omega arith)
 
-returns : tie.Need-returns Inv-loop μ-loop
-returns c =
-    let st = c .before .before .before .before .before .before in
-    let l = c .before .before .before in
-    sym (bytes-fail (st .args .n) (st .args .memory .now) (l .loop .j) (omega arith) (sym (c .before .byte-true .ensures) ∙ not-true _ (c .if1 .taken)))
+returns-2 : tie.Need-returns-2 Inv-loop μ-loop
+returns-2 c = let a = c .before .before .before .before .before .before .before .before .args in
+    let l = c .before .before .before .loop in
+    sym (words-fail (a .n) (a .memory .now) (l .i) (omega arith) (sym (c .before .word-true .ensures) ∙ not-true _ (c .if2 .taken)))
 
-add-j : tie.Need-add-j Inv-loop μ-loop
+add-i : tie.Need-add-i Inv-loop μ-loop
 unfolding mapBlocks
-add-j c = search needs
+add-i c = search needs
 
 loop-less : tie.Need-loop-less Inv-loop μ-loop
 loop-less c = search needs
 
 loop-again : tie.Need-loop-again Inv-loop μ-loop
-loop-again c =
-    let st = c .before .before .before .before .before .before in
-    let l = c .before .before .before in
-    (omega arith, omega arith, bytes-more (st .args .n) (st .args .memory .now) (l .loop .j) (l .loop .inv .2) (sym (c .before .byte-true .ensures) ∙ not-false _ (c .if1 .left)))
+loop-again c = let a = c .before .before .before .before .before .before .before .before .args in
+    let l = c .before .before .before .loop in
+    (omega arith, omega arith, words-more (a .n) (a .memory .now) (l .i) (l .inv .2) (sym (c .before .word-true .ensures) ∙ not-false _ (c .if2 .left)))
 
-returns-2 : tie.Need-returns-2 Inv-loop μ-loop
-returns-2 c =
-    let st = c .before .before .before .before in
-    sym (bytes-all (st .args .n) (st .args .memory .now) (c .before .loop .j) (omega arith) (c .before .loop .inv .2))
+returns-3 : tie.Need-returns-3 Inv-loop μ-loop
+returns-3 c = let a = c .before .before .before .before .before .before .args in
+    let l = c .before .loop in
+    sym (words-all (a .n) (a .memory .now) (l .i) (omega arith) (l .inv .2))
 
 pub is-true-spec : {M : Type 1} → statement M
 is-true-spec =
@@ -67,13 +74,16 @@ is-true-spec =
     (tie.spec
     Inv-loop
     μ-loop
+    block-place-requires
+    returns
+    cast-end
     map-blocks-requires
     mul-end
     loop-holds
-    cast-byte-true
-    byte-true-requires
-    returns
-    add-j
+    cast-word-true
+    word-true-requires
+    returns-2
+    add-i
     loop-less
     loop-again
-    returns-2)
+    returns-3)

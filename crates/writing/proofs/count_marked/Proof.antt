@@ -1,49 +1,58 @@
--- `writing::count_marked` meets its contract: m counts the leaves with bit 1 below leaf k.
+-- `writing::count_marked` meets its contract: m counts the leaves with bit 1 of the words before word i.
 use mathlib.Core.Path.{_≡_, ap, sym, _∙_}
-use Prim.Native.Nat.{ℕ, _-_, _≤_, _<_}
+use Prim.Native.Nat.{_+_, _*_, _-_, _/_, _≤_}
 use native.Mathlib.Omega.{arith}
 use lib.ListN.{length}
-use Rattle.memory.specs.PlainReading.{leafBit}
+use Rattle.laws.specs.Bytes.{Bytes}
+use Rattle.geometry.specs.TagMemory.{mapBlocks}
 use Rattle.image.specs.Encode.{recordsBelow}
-use Rattle.image.proofs.Records.{below-none, length-take}
+use Rattle.image.proofs.Records.{below-none, length-below}
+use Rattle.writing.proofs.Search.{word-more, all-counted}
 use borrow.Author.Needs.{needs}
 use Rattle.writing.proofs.count_marked.Statement.{statement}
 use Rattle.writing.proofs.count_marked.Tie as tie
 
 abbrev Inv-loop : tie.InvT-loop
-Inv-loop n memory m₀ k₀ m k = (k ≤ n) × (m ≤ k) × (m ≡ length (recordsBelow n memory k)) × (k < n → leafBit n memory k ≡ 1)
+Inv-loop n memory end m₀ i₀ m i = (i ≤ end) × (end ≡ (n + 31) / 32) × (m ≡ length (recordsBelow n memory (32 * i)))
 
 abbrev μ-loop : tie.MeasureT-loop
-μ-loop n memory m₀ k₀ m k = n - k
+μ-loop n memory end m₀ i₀ m i = end - i
 
-next-marked-requires : tie.Need-next-marked-requires Inv-loop μ-loop
-next-marked-requires c κs = (omega arith, search needs)
+sub-end : tie.Need-sub-end Inv-loop μ-loop
+sub-end c = search needs
+
+add-end : tie.Need-add-end Inv-loop μ-loop
+add-end c = omega arith
 
 loop-holds : tie.Need-loop-holds Inv-loop μ-loop
-loop-holds c = let z = c .next-marked .ensures in (z .1, omega arith, sym (ap length (z .2 ∙ below-none _ _)), z .3)
+loop-holds c = let a = c .before .args in (omega arith, omega arith, sym (ap length (below-none (a .n) (a .memory .now))))
+
+map-word-requires : tie.Need-map-word-requires Inv-loop μ-loop
+map-word-requires c κs = search needs
 
 add-m : tie.Need-add-m Inv-loop μ-loop
-add-m c = search needs
+unfolding Bytes
+add-m c = let a = c .before .before .before .before .args in
+    let l = c .before .before .loop in
+    omega (arith, l .inv .2, word-more (a .n) (a .memory .now) (λ x. omega (arith, c .before .before .before .shared-slice-known .given x)) (l .i) (c .map-word .result) (c .map-word .ensures) (omega (arith, c .map-word .ok)), length-below (a .n) (a .memory .now) (32 * (l .i + 1)))
 
-add-next-marked : tie.Need-add-next-marked Inv-loop μ-loop
-add-next-marked c = search needs
-
-next-marked-requires-2 : tie.Need-next-marked-requires-2 Inv-loop μ-loop
-next-marked-requires-2 c κs = (omega arith, search needs)
+add-i : tie.Need-add-i Inv-loop μ-loop
+add-i c = omega arith
 
 loop-less : tie.Need-loop-less Inv-loop μ-loop
 loop-less c = omega arith
 
 loop-again : tie.Need-loop-again Inv-loop μ-loop
-loop-again c = let a = c .before .before .before .before .before .args in
+unfolding Bytes
+loop-again c = let a = c .before .before .before .before .args in
     let l = c .before .before .loop in
-    let z = c .next-marked2 .ensures in
-    (z .1, omega arith, omega (arith, ap length (z .2), length-take (a .n) (a .memory .now) (l .k) (l .inv .3 (omega arith))), z .3)
+    (omega arith, omega arith, omega (arith, l .inv .2, word-more (a .n) (a .memory .now) (λ x. omega (arith, c .before .before .before .shared-slice-known .given x)) (l .i) (c .map-word .result) (c .map-word .ensures) (omega (arith, c .map-word .ok))))
 
 returns : tie.Need-returns Inv-loop μ-loop
-returns c = let a = c .before .before .before .before .args in
-    let e : c .before .loop .k ≡ a .n = omega arith in
-    c .before .loop .inv .2 ∙ ap (λ (x : ℕ). length (recordsBelow (a .n) (a .memory .now) x)) e
+unfolding mapBlocks
+returns c = let s = c .before .before .before in
+    let l = c .before .loop in
+    l .inv .2 ∙ ap length (all-counted (s .args .n) (s .args .memory .now) (l .i) (s .pre .2) (omega arith) (omega arith))
 
 pub count-marked-spec : {M : Type 1} → statement M
 count-marked-spec =
@@ -51,11 +60,12 @@ count-marked-spec =
     (tie.spec
     Inv-loop
     μ-loop
-    next-marked-requires
+    sub-end
+    add-end
     loop-holds
+    map-word-requires
     add-m
-    add-next-marked
-    next-marked-requires-2
+    add-i
     loop-less
     loop-again
     returns)

@@ -47,7 +47,11 @@ returns-3 c = let a = c .before .before .before .before .before .before .before 
     refused (a .n) (a .memory .now) (a .output .now) 2 (refusal-3 _ _ _ (sym (c .before .before .before .before .before .in-limits .ensures) ∙ not-false _ (c .before .before .before .before .if1 .left)) (omega (arith, c .before .before .before .memory-length .ensures)) (sym (c .before .is-true .ensures) ∙ not-true _ (c .if3 .taken)))
 
 count-marked-requires : tie.Need-count-marked-requires
-count-marked-requires c κs = omega (arith, c .before .before .before .memory-length .ensures)
+count-marked-requires c κs = (
+  omega (arith, inLimits-most _ (sym (c .before .before .before .before .before .in-limits .ensures) ∙ not-false _ (c .before .before .before .before .if1 .left))),
+  omega (arith, c .before .before .before .memory-length .ensures),
+  sym (c .before .is-true .ensures) ∙ not-false _ (c .if3 .left),
+)
 
 cast-long : tie.Need-cast-long
 cast-long c = search needs
