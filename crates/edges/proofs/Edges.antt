@@ -41,6 +41,11 @@ limits-equal n t =
     let q : t < t + 1 = omega arith in
     both-false-right _ _ (both-false-right _ _ (both-false-left _ _ (lt-leb _ _ q)))
 
+-- one leaf has groups 0 to 15
+sixteen : groups 1 ≤ 16
+unfolding groups
+sixteen = omega arith
+
 refused-1 : (n t l : ℕ) (bytes memory : List ℕ) → limits n t l ≡ false → fresh n t l bytes memory .said ≡ no 1
 unfolding fresh refusal unless
 refused-1 n t l bytes memory e = rw e
@@ -87,7 +92,7 @@ edges = record {
       (lengths-right 1 (t + 1) bytes memory p (q ∙ sym length-1));
   group-15 = λ bytes memory access g p q. last-group bytes memory p q access g;
   group-16 = λ bytes memory access g p q. past-group bytes memory p q access g;
-  reading-16 = λ memory q. reading.refused-6 1 memory 16 (inLimits-is 1 (omega arith) (omega arith)) (q ∙ sym length-1) (omega arith);
+  reading-16 = λ memory q. reading.refused-6 1 memory 16 (inLimits-is 1 (omega arith) (omega arith)) (q ∙ sym length-1) sixteen;
   length-1 = length-1;
   length-512 = length-512;
   length-513 = length-513;
