@@ -1,10 +1,11 @@
 -- The calls of a licensee's harness: the state is lent as words, and each gives a number. Each is the rules' own call on the state that the words code.
 use mathlib.Core.List.{List, [], _∷_}
 use mathlib.Core.Bool.{Bool}
-use Prim.Native.Nat.{ℕ, _+_, _*_}
+use Prim.Native.Nat.{ℕ, _+_, _-_, _*_}
 use lib.Dec.{eqb, ltb}
 use lib.ListN.{length, getD}
 use Rattle.laws.specs.Choice.{pick, both, one}
+use Rattle.laws.specs.Bytes.{part}
 use Rattle.laws.specs.Refusal.{Tests, refusal, unless}
 use Rattle.tracker.specs.declared.Access.{Access}
 use Rattle.line.specs.Find.{lineOf}
@@ -85,6 +86,10 @@ shownAt s bytes memory k =
     unless (showNo s bytes memory k)
     (pick (ltb i (s .l)) (1 + 64 * i) (pick (eqb (length (show s bytes memory k)) 0) 0 (1099511627776 + (1 + 64 * k))))
     refusedBy
+
+-- the 64 bytes that such a number says
+abbrev pub bytesAt : List ℕ → List ℕ → ℕ → List ℕ
+bytesAt bytes memory p = pick (eqb p 0) [] (pick (ltb p 1099511627776) (part bytes (p - 1) 64) (part memory (p - 1099511627777) 64))
 
 unfoldable pub tagShow : List ℕ → List ℕ → List ℕ → ℕ → ℕ
 tagShow w bytes memory k = unless (refusal (wordTests w)) (shownAt (decoded w) bytes memory k) refusedBy

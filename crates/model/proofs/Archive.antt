@@ -31,7 +31,7 @@ test-most image = by-tests (both (lengthRight image) (checksRight (formOf image)
 
 module _ (image : List ℕ) (room : ℕ) where
   pub restoring-most : restoringRefusal image room ≤ 11
-  unfolding restoringRefusal
+  unfolding restoringRefusal refusal
   restoring-most = by-tests (eqb (imageTest image) 0) (eqb room (memoryLength (leavesIn image))) (test-most image)
     where
       by-tests : (b c : Bool) {k : ℕ} → k ≤ 11 → pick b (pick c 0 2) k ≤ 11
