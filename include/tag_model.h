@@ -35,6 +35,7 @@ extern "C" {
 #define TAG_BUSY 7     /* tracker x is busy; for a drain or a show, some tracker is */
 #define TAG_IDLE 8     /* tracker x is idle */
 #define TAG_ROOM 9     /* the output is too short */
+#define TAG_MEETS 13   /* another tracker is busy with group g, and one of the two writes */
 
 /* The cache and its trackers.
  *
@@ -66,7 +67,8 @@ uint64_t tag_open(const uint64_t *device, size_t device_words, uint64_t *state,
                   const uint8_t *memory, size_t memory_length);
 
 /* Issues an access to tracker x: of group g, a write of v where `write` is not 0, else a
- * read; bottom-up where `bottom` is not 0, else top-down. Gives 0. Refused 4, 2, 5, 6, 7. */
+ * read; bottom-up where `bottom` is not 0, else top-down. Gives 0. Refused 4, 2, 5, 6, 7,
+ * 13. */
 uint64_t tag_issue(uint64_t *state, size_t state_words, const uint8_t *bytes,
                    size_t bytes_length, const uint8_t *memory, size_t memory_length,
                    uint64_t x, uint64_t write, uint64_t bottom, uint64_t g, uint32_t v);

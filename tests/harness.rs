@@ -31,7 +31,7 @@ const WHOLE: Function = Function(6, "tag_whole");
 const REFUSALS: [(&str, &[u64]); 10] = [
     ("tag_fresh", &[1, 2]),
     ("tag_open", &[1, 2, 3]),
-    ("tag_issue", &[4, 2, 5, 6, 7]),
+    ("tag_issue", &[4, 2, 5, 6, 7, 13]),
     ("tag_step", &[4, 2, 5, 8]),
     ("tag_drain", &[4, 2, 7]),
     ("tag_show", &[4, 2, 6, 7]),

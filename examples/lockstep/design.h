@@ -128,6 +128,8 @@ private:
         Unit &u = units[x];
         said = REFUSED;
         if (u.state != IDLE) return;
+        for (const Unit &other : units)
+            if (other.state != IDLE && other.group == group && (other.write || write)) return;
         u = Unit{bottom ? PROBE : MAP, write, group, write ? value : 0, 0};
         said = OK;
     }

@@ -1,3 +1,3 @@
 pub mod Ways
-pub mod Refused
+pub mod Unchanged
 pub mod Shown
