@@ -1,29 +1,30 @@
 //! Replay as a plain Rust program: the same step rules, the same output, the state behind
 //! `&mut`, standard input read in chunks and output buffered. Nothing is proved here: it is
-//! what the proved replay is timed against (`bench/replay.sh`).
+//! what the proved replay is timed against (`bench/replay.sh`), and its cache what the
+//! library's calls are (`bench/harness.sh`).
 
 use std::io::{self, Read, Write};
 
 const BLOCK: usize = 64;
 const CHUNK: usize = 65_536;
-const FREE: u32 = u32::MAX;
-const NOBODY: u8 = u8::MAX;
+pub const FREE: u32 = u32::MAX;
+pub const NOBODY: u8 = u8::MAX;
 
 // ------------------------------------------------------------ The cache
 
 /// A line's block by its place in memory (leaf k is k, map block m is n + m), and the
 /// tracker that holds it.
 #[derive(Clone, Copy)]
-struct Line {
-    block: u32,
-    changed: bool,
-    holder: u8,
+pub struct Line {
+    pub block: u32,
+    pub changed: bool,
+    pub holder: u8,
 }
 
 const EMPTY: Line = Line { block: FREE, changed: false, holder: NOBODY };
 
 #[derive(Clone, Copy, PartialEq)]
-enum Phase {
+pub enum Phase {
     Idle,
     Probe,
     Map,
@@ -33,17 +34,17 @@ enum Phase {
 }
 
 #[derive(Clone, Copy)]
-struct Tracker {
-    phase: Phase,
-    write: bool,
-    turns: u16,
-    group: u32,
-    value: u32,
+pub struct Tracker {
+    pub phase: Phase,
+    pub write: bool,
+    pub turns: u16,
+    pub group: u32,
+    pub value: u32,
 }
 
 const REST: Tracker = Tracker { phase: Phase::Idle, write: false, turns: 0, group: 0, value: 0 };
 
-enum Answer {
+pub enum Answer {
     Ok,
     Wait,
     Moved,
@@ -53,17 +54,17 @@ enum Answer {
     No(u8),
 }
 
-struct Cache {
-    n: u32,
-    hand: usize,
-    lines: Vec<Line>,
-    trackers: Vec<Tracker>,
-    bytes: Vec<u8>,
-    memory: Vec<u8>,
+pub struct Cache {
+    pub n: u32,
+    pub hand: usize,
+    pub lines: Vec<Line>,
+    pub trackers: Vec<Tracker>,
+    pub bytes: Vec<u8>,
+    pub memory: Vec<u8>,
 }
 
 impl Cache {
-    fn fresh(n: u32, l: u32, t: u32) -> Cache {
+    pub fn fresh(n: u32, l: u32, t: u32) -> Cache {
         let (l, t) = (l as usize, t as usize);
         Cache {
             n,
@@ -75,7 +76,7 @@ impl Cache {
         }
     }
 
-    fn find(&self, block: u32) -> Option<usize> {
+    pub fn find(&self, block: u32) -> Option<usize> {
         self.lines.iter().position(|line| line.block == block)
     }
 
@@ -124,7 +125,7 @@ impl Cache {
         i
     }
 
-    fn issue(&mut self, x: u32, group: u32, write: Option<u32>, bottom_up: bool) -> Answer {
+    pub fn issue(&mut self, x: u32, group: u32, write: Option<u32>, bottom_up: bool) -> Answer {
         let Some(tracker) = self.trackers.get(x as usize) else {
             return Answer::No(5);
         };
@@ -151,7 +152,7 @@ impl Cache {
         Answer::Ok
     }
 
-    fn step(&mut self, x: u32) -> Answer {
+    pub fn step(&mut self, x: u32) -> Answer {
         let x = x as usize;
         let Some(tracker) = self.trackers.get_mut(x) else {
             return Answer::No(5);

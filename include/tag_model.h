@@ -1,11 +1,15 @@
 /* The model in a licensee's own harness, from C.
  *
- * Link with libmodel.a. The functions keep nothing between calls. A pointer must not be
- * null and must lend as many bytes as the length after it says; where that is 0 nothing
- * is read or written through it. What two pointers of one call lend must not overlap.
+ * Link with libmodel.a. It has the calls of tags.h too: link with it or with libhost.a, not
+ * with both. The functions keep nothing between calls, and two threads may call at once as
+ * long as neither changes what the other was lent. A pointer must not be null, and must lend
+ * as many bytes, or words of 8 bytes aligned to 8, as the length after it says; where that is
+ * 0 nothing is read or written through it. What two pointers of one call lend must not
+ * overlap.
  *
  * Numbers as in tags.h: n leaves (1 to 262144) have 16 n groups, each the 8 tags of one
- * 64-byte data block: 32 bits, tag j in bits 4j to 4j+3.
+ * 64-byte data block: 32 bits, tag j in bits 4j to 4j+3. A memory of n leaves is
+ * 64 * (n + n/512 rounded up) bytes: the leaves, then the map blocks.
  */
 #ifndef TAG_MODEL_H
 #define TAG_MODEL_H
@@ -13,13 +17,101 @@
 #include <stddef.h>
 #include <stdint.h>
 
+#include "tags.h"
+
 #ifdef __cplusplus
 extern "C" {
 #endif
 
 /* A refused call gives TAG_MODEL_REFUSED plus the refusal, by its number in the papers,
- * and leaves every lent byte as it came. */
+ * and leaves all that it was lent as it came; a refused tag_fresh or tag_open makes the
+ * state's words zero, unless a number of words is wrong. */
 #define TAG_MODEL_REFUSED UINT64_C(4294967296)
+
+/* The refusals of the calls below, by their numbers in the papers; tags.h has 1, 2, 3, 6,
+ * 10 and 11. */
+#define TAG_BROKEN 4   /* the state is broken, or its words code no state */
+#define TAG_TRACKER 5  /* x is T or more */
+#define TAG_BUSY 7     /* tracker x is busy; for a drain or a show, some tracker is */
+#define TAG_IDLE 8     /* tracker x is idle */
+#define TAG_ROOM 9     /* the output is too short */
+#define TAG_MEETS 13   /* another tracker is busy with group g, and one of the two writes */
+
+/* The cache and its trackers.
+ *
+ * A state is TAG_STATE_WORDS words: n, T, L, the hand; then 64 lines, a word each: 0 is
+ * free, else of the word less 1 the lowest bit says changed, the next seven are 1 plus the
+ * number of the tracker that holds the line's block, or 0, and the rest is the block, leaf k
+ * as k and map block m as n + m; then of each of 8 trackers TAG_TRACKER_WORDS words: its
+ * phase (0 idle, 1 Probe, 2 Map, 3 Leaf, 4 Finish to set, 5 Finish to clear), whether it
+ * writes, whether it is bottom-up (0 or 1), its group, its value, its turns. The line bytes
+ * are 64 L, the memory is that of n leaves. Keep all three between calls as they came back.
+ * A state that a caller changed is tested: it is either whole, or refused with TAG_BROKEN.
+ *
+ * A device is TAG_DEVICE_WORDS words: n, T (1 to 8), L (T + 1 to 64).
+ *
+ * A wrong number of words in device, state or answer is TAG_LENGTH, before all else. */
+#define TAG_STATE_WORDS 116
+#define TAG_TRACKER_WORDS 6
+#define TAG_DEVICE_WORDS 3
+#define TAG_ANSWER_WORDS 6
+
+/* A fresh memory: every map byte is made 0. Gives 0. Refused 1, 2. */
+uint64_t tag_fresh(const uint64_t *device, size_t device_words, uint64_t *state,
+                   size_t state_words, const uint8_t *bytes, size_t bytes_length,
+                   uint8_t *memory, size_t memory_length);
+
+/* A memory as it is. Gives 0. Refused 1, 2, 3. */
+uint64_t tag_open(const uint64_t *device, size_t device_words, uint64_t *state,
+                  size_t state_words, const uint8_t *bytes, size_t bytes_length,
+                  const uint8_t *memory, size_t memory_length);
+
+/* Issues an access to tracker x: of group g, a write of v where `write` is not 0, else a
+ * read; bottom-up where `bottom` is not 0, else top-down. Gives 0. Refused 4, 2, 5, 6, 7,
+ * 13. */
+uint64_t tag_issue(uint64_t *state, size_t state_words, const uint8_t *bytes,
+                   size_t bytes_length, const uint8_t *memory, size_t memory_length,
+                   uint64_t x, uint64_t write, uint64_t bottom, uint64_t g, uint32_t v);
+
+/* One step of tracker x. Gives 0, and the answer: what was said, the value that was read,
+ * the turns, and three words that are 0. Refused 4, 2, 5, 8. */
+#define TAG_WAIT 1
+#define TAG_MOVED 2
+#define TAG_READ 3
+#define TAG_DONE 4
+#define TAG_SAME 5
+uint64_t tag_step(uint64_t *state, size_t state_words, uint8_t *bytes, size_t bytes_length,
+                  uint8_t *memory, size_t memory_length, uint64_t x, uint64_t *answer,
+                  size_t answer_words);
+
+/* Writes the changed lines to memory and marks them clean. Gives 0. Refused 4, 2, 7. */
+uint64_t tag_drain(uint64_t *state, size_t state_words, const uint8_t *bytes,
+                   size_t bytes_length, uint8_t *memory, size_t memory_length);
+
+/* Where the 64 bytes of leaf k are: 0 where it has none, else 1 plus their place in the line
+ * bytes, or TAG_IN_MEMORY plus 1 plus their place in memory. Refused 4, 2, 6, 7. */
+#define TAG_IN_MEMORY UINT64_C(1099511627776)
+uint64_t tag_show(const uint64_t *state, size_t state_words, const uint8_t *bytes,
+                  size_t bytes_length, const uint8_t *memory, size_t memory_length, uint64_t k);
+
+/* 1 where the state is whole, 0 where it is broken or its words code none. Refused 2. */
+uint64_t tag_whole(const uint64_t *state, size_t state_words);
+
+/* Archive images.
+ *
+ * tag_write_image writes the image of a true memory to the front of the output and gives its
+ * length. Refused 1, 2, 3, 9. tag_restore fills all of the memory from an image. Gives 0.
+ * Refused 10, 11, 2. tag_record reads the record at place p of an image, which it does not
+ * test: 0 at the end, else 1, and the record's TAG_RECORD_WORDS words are its leaf and the
+ * place of its 64 bytes in the image. At the end they stay as they came. Refused 2, for
+ * another number of words. */
+#define TAG_RECORD_WORDS 2
+uint64_t tag_write_image(uint64_t n, const uint8_t *memory, size_t memory_length,
+                         uint8_t *output, size_t output_length);
+uint64_t tag_restore(const uint8_t *image, size_t image_length, uint8_t *memory,
+                     size_t memory_length);
+uint64_t tag_record(const uint8_t *image, size_t image_length, uint64_t p, uint64_t *record,
+                    size_t record_words);
 
 /* Prediction bits: one bit for a run of c groups.
  *

@@ -41,6 +41,10 @@ impl Slice {
         Slice { at: self.at + range.start, length: range.len(), ..self.clone() }
     }
 
+    pub fn slot(&self) -> u64 {
+        self.slot
+    }
+
     fn row(&self, what: u64) -> [u64; 4] {
         [what, self.slot, self.at as u64, self.length as u64]
     }
@@ -52,17 +56,22 @@ pub enum Argument {
     Read(Slice),
     /// Lent to change: it comes back with the answer.
     Change(Slice),
+    /// Lent to change: it stays in the driver, and a call says which parts of it come back.
+    Keep(Slice),
 }
 
 use Argument::*;
 
-/// A call that was sent, and what the model says: the value, and each slice that was lent to
-/// change.
+/// A part of a slot, and what the model says that it is.
+pub type Look = (Slice, Vec<u8>);
+
+/// A call that was sent, and what the model says: the value, and what each part that comes
+/// back is.
 struct Asked {
     function: Function,
     arguments: Vec<Argument>,
     value: u64,
-    changed: Vec<Vec<u8>>,
+    looks: Vec<Look>,
 }
 
 /// The driver's end of the answers.
@@ -122,10 +131,24 @@ impl Driver {
         changed: Vec<Vec<u8>>,
     ) {
         assert_eq!(changing(&arguments).count(), changed.len());
+        let looks = changing(&arguments).cloned().zip(changed).collect();
+        self.call_and_look(function, arguments, value, looks);
+    }
+
+    /// The same, where the caller says which parts come back: what was lent to change, and
+    /// parts of what stays in the driver.
+    pub fn call_and_look(
+        &mut self,
+        function: Function,
+        arguments: Vec<Argument>,
+        value: u64,
+        looks: Vec<Look>,
+    ) {
         self.request(function, &arguments);
-        self.checks += 1 + changed.len() as u64;
-        let awaited = changed.iter().map(|bytes| bytes.len()).sum();
-        self.asked.push(Asked { function, arguments, value, changed });
+        looks.iter().for_each(|(slice, _)| self.row(slice.row(GET)));
+        self.checks += 1 + looks.len() as u64;
+        let awaited = looks.iter().map(|(_, bytes)| bytes.len()).sum();
+        self.asked.push(Asked { function, arguments, value, looks });
         self.more(awaited);
     }
 
@@ -133,6 +156,7 @@ impl Driver {
     pub fn ask(&mut self, function: Function, arguments: Vec<Argument>) -> (u64, Vec<Vec<u8>>) {
         self.compare();
         self.request(function, &arguments);
+        changing(&arguments).for_each(|slice| self.row(slice.row(GET)));
         self.compare();
         let value = self.answers.word();
         (value, changing(&arguments).map(|slice| self.answers.bytes(slice.length)).collect())
@@ -157,10 +181,9 @@ impl Driver {
             self.row(match argument {
                 Number(number) => [NUMBER, *number, 0, 0],
                 Read(slice) => slice.row(READ),
-                Change(slice) => slice.row(CHANGE),
+                Change(slice) | Keep(slice) => slice.row(CHANGE),
             });
         }
-        changing(arguments).for_each(|slice| self.row(slice.row(GET)));
     }
 
     /// A request more, with so many bytes put or awaited.
@@ -220,7 +243,7 @@ impl Answers {
         if got != asked.value {
             self.different(&asked, &format!("{got}, the model {}", asked.value));
         }
-        for (slice, expected) in changing(&asked.arguments).zip(&asked.changed) {
+        for (slice, expected) in &asked.looks {
             let got = self.bytes(slice.length);
             if got != *expected {
                 let at = (0..).find(|&at| got.get(at) != expected.get(at)).unwrap();
@@ -234,7 +257,7 @@ impl Answers {
         for (i, argument) in asked.arguments.iter().enumerate() {
             words.push(match argument {
                 Number(number) => number.to_string(),
-                Read(slice) | Change(slice) => self.saved(i, slice),
+                Read(slice) | Change(slice) | Keep(slice) => self.saved(i, slice),
             });
         }
         let name = asked.function.1;

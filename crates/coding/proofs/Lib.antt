@@ -1,0 +1,4 @@
+pub mod Stores
+pub mod Trackers
+pub mod Turns
+pub mod Inverse

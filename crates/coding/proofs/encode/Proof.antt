@@ -1,0 +1,42 @@
+-- `encode` meets its contract: the parts of the coding, one after the other.
+use borrow.Author.Needs.{needs}
+use mathlib.Core.Path.{_≡_, refl, sym, ap, _∙_}
+use borrow.Author.Tests.{eq-eqb, ne-eqb}
+use lib.ListN.{length}
+use Rattle.cache.specs.Seen.{seen}
+use Rattle.coding.proofs.Turns.{encoded}
+use Rattle.coding.proofs.encode.Statement.{statement}
+use Rattle.coding.proofs.encode.Tie as tie
+
+returns : tie.Need-returns
+returns c = rw (ne-eqb _ _ (c .if1 .taken)) refl
+
+put-shape-requires : tie.Need-put-shape-requires
+put-shape-requires c κs = search needs
+
+put-lines-requires : tie.Need-put-lines-requires
+put-lines-requires c κs = search needs
+
+put-trackers-requires : tie.Need-put-trackers-requires
+put-trackers-requires c κs = search needs
+
+same-length : tie.Need-same-length
+same-length c = search needs
+
+returns-2 : tie.Need-returns-2
+returns-2 c = let a = c .before .before .before .before .before .before .before .before .before .before .before .before .before .before .before .before .args in
+    let e = c .before .before .before .before .before .before .before .before .before .before .before .before .before .before .if1 .left in
+    let p : length (a .state .lines) ≡ 64 = search needs in
+    let q = c .before .before .put-trackers .ensures .1 in
+    rw (eq-eqb _ _ e) (c .before .before .put-trackers .ensures .0 ∙ rw (c .before .before .before .before .before .before .before .put-lines .ensures, c .before .before .before .before .before .before .before .before .before .before .before .before .put-shape .ensures) (encoded (seen (a .state)) p q (a .words .now) e))
+
+pub encode-spec : {M : Type 1} → statement M
+encode-spec =
+    tie.close
+    (tie.spec
+    returns
+    put-shape-requires
+    put-lines-requires
+    put-trackers-requires
+    same-length
+    returns-2)

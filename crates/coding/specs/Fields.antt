@@ -1,0 +1,21 @@
+-- The numbers that the fields of a state hold: n and T, each line, and a tracker's group and value have 32 bits, its turns 16.
+use mathlib.Core.Path.{_≡_}
+use Prim.Native.Nat.{ℕ, _≤_, _<_}
+use lib.ListN.{length, getD}
+use Rattle.geometry.specs.TagMemory.{values, mostTrackers, mostLines}
+use Rattle.tracker.specs.declared.Tracker.{Tracker}
+use Rattle.tracker.specs.Tracker.{mostTurns}
+use Rattle.rules.specs.State.{State, trackerAt}
+
+pub record TrackerFits (t : Tracker) : Type 0 where
+  pub group : t .group < values
+  pub value : t .value < values
+  pub turns : t .turns ≤ mostTurns
+
+pub record Fits (s : State) : Type 0 where
+  pub n : s .n < values
+  pub t : s .t < values
+  pub lined : length (s .lines) ≡ mostLines
+  pub tracked : length (s .trackers) ≡ mostTrackers
+  pub lines : (i : ℕ) → i < mostLines → getD (s .lines) i 0 < values
+  pub trackers : (x : ℕ) → x < mostTrackers → TrackerFits (trackerAt (s .trackers) x)

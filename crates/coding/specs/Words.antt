@@ -1,0 +1,106 @@
+-- A state as words, for a caller that lends it: n, T, L, the hand, the 64 lines, and the words of each of the 8 trackers.
+use mathlib.Core.List.{List, [], _∷_, _++_}
+use mathlib.Core.Bool.{Bool}
+use Prim.Native.Nat.{ℕ, zero, suc, _+_, _*_}
+use lib.Dec.{eqb, ltb}
+use lib.ListN.{length, getD}
+use Rattle.laws.specs.Choice.{pick, both, one}
+use Rattle.laws.specs.Scan.{all}
+use Rattle.laws.specs.Bytes.{part}
+use Rattle.geometry.specs.TagMemory.{values, mostTrackers, mostLines}
+use Rattle.tracker.specs.declared.Phase.{Phase}
+use Rattle.tracker.specs.declared.Phase.the-variants.{Idle, Probe, Map, Leaf, Set, Clear}
+use Rattle.tracker.specs.declared.Tracker.{Tracker}
+use Rattle.tracker.specs.Tracker.{mostTurns}
+use Rattle.rules.specs.State.{State}
+
+-- the words of a tracker: its phase, whether it writes, whether it is bottom-up, its group, its value, its turns
+abbrev pub trackerWords : ℕ
+trackerWords = 6
+
+-- where the lines begin, and tracker x
+abbrev pub linesPlace : ℕ
+linesPlace = 4
+
+abbrev pub trackerPlace : ℕ → ℕ
+trackerPlace x = linesPlace + mostLines + trackerWords * x
+
+-- the words of a state
+abbrev pub stateWords : ℕ
+stateWords = trackerPlace mostTrackers
+
+-- the number of a phase
+abbrev pub phaseNumber : Phase → ℕ
+phaseNumber Idle = 0
+phaseNumber Probe = 1
+phaseNumber Map = 2
+phaseNumber Leaf = 3
+phaseNumber Set = 4
+phaseNumber Clear = 5
+
+abbrev pub phases : ℕ
+phases = 6
+
+unfoldable pub trackerCoded : Tracker → List ℕ
+trackerCoded t = phaseNumber (t .phase) ∷ one (t .write) ∷ one (t .bottom) ∷ t .group ∷ t .value ∷ t .turns ∷ []
+
+unfoldable pub trackersCoded : List Tracker → List ℕ
+trackersCoded [] = []
+trackersCoded (t ∷ ts) = trackerCoded t ++ trackersCoded ts
+
+abbrev pub shapeCoded : State → List ℕ
+shapeCoded s = s .n ∷ s .t ∷ s .l ∷ s .hand ∷ []
+
+-- the coding of a state
+unfoldable pub coded : State → List ℕ
+coded s = shapeCoded s ++ (s .lines ++ trackersCoded (s .trackers))
+
+-- the phase that has a number
+unfoldable pub phaseOf : ℕ → Phase
+phaseOf k = pick (eqb k 1) Probe (pick (eqb k 2) Map (pick (eqb k 3) Leaf (pick (eqb k 4) Set (pick (eqb k 5) Clear Idle))))
+
+-- the tracker that the words from `at` on code
+unfoldable pub trackerIn : List ℕ → ℕ → Tracker
+trackerIn w at = record {
+  phase = phaseOf (getD w at 0);
+  write = eqb (getD w (at + 1) 0) 1;
+  bottom = eqb (getD w (at + 2) 0) 1;
+  group = getD w (at + 3) 0;
+  value = getD w (at + 4) 0;
+  turns = getD w (at + 5) 0;
+}
+
+-- the first x trackers
+unfoldable pub trackersTo : List ℕ → ℕ → List Tracker
+trackersTo w zero = []
+trackersTo w (suc x) = trackersTo w x ++ (trackerIn w (trackerPlace x) ∷ [])
+
+-- the state that words code
+unfoldable pub decoded : List ℕ → State
+decoded w = record {
+  n = getD w 0 0;
+  t = getD w 1 0;
+  l = getD w 2 0;
+  hand = getD w 3 0;
+  lines = part w linesPlace mostLines;
+  trackers = trackersTo w mostTrackers;
+}
+
+-- no word from `at` on is too wide for its field of a tracker
+unfoldable pub codesTracker : List ℕ → ℕ → Bool
+codesTracker w at =
+    both (both (ltb (getD w at 0) phases) (both (ltb (getD w (at + 1) 0) 2) (ltb (getD w (at + 2) 0) 2)))
+    (both (ltb (getD w (at + 3) 0) values) (both (ltb (getD w (at + 4) 0) values) (ltb (getD w (at + 5) 0) (suc mostTurns))))
+
+-- n and T have 32 bits in a state, as a line has; L and the hand have 64, as a word has
+abbrev pub codesShape : List ℕ → Bool
+codesShape w = both (ltb (getD w 0 0) values) (ltb (getD w 1 0) values)
+
+abbrev pub codesLine : List ℕ → ℕ → Bool
+codesLine w i = ltb (getD w (linesPlace + i) 0) values
+
+-- the words code a state: there are as many as a state has, and none is too wide for its field
+unfoldable pub codes : List ℕ → Bool
+codes w =
+    both (eqb (length w) stateWords)
+    (both (codesShape w) (both (all (codesLine w) mostLines) (all (λ x. codesTracker w (trackerPlace x)) mostTrackers)))

@@ -1,0 +1,354 @@
+// A state as 64-bit words, for a caller that lends it: its coding, the state that words code, and a call's answer as words.
+// No public function has a `requires`: words can be anything, and as many as a caller likes.
+use cache::State;
+use geometry::Geometry;
+use tracker::Answer;
+use tracker::Phase;
+use tracker::Tracker;
+ghost use mathlib.Core.Path.{_≡_};
+ghost use mathlib.Core.Bool.{true};
+ghost use mathlib.Core.List.{[], _∷_};
+ghost use Prim.Native.Nat.{_+_, _≤_};
+ghost use lib.Dec.{eqb};
+ghost use lib.ListN.{length};
+ghost use Rattle.laws.specs.Choice.{pick, one};
+ghost use Rattle.laws.specs.Scan.{all};
+ghost use Rattle.laws.specs.Bytes.{part, splice};
+ghost use Rattle.geometry.specs.TagMemory.{mostLines, mostTrackers};
+ghost use Rattle.tracker.specs.Answer.{says};
+ghost use Rattle.rules.specs.State.{zeroState};
+ghost use Rattle.cache.specs.Seen.{seen};
+ghost use Rattle.coding.specs.Words.{trackerWords, linesPlace, trackerPlace, stateWords, phaseNumber, trackerCoded, trackersCoded, coded, phaseOf, trackerIn, trackersTo, decoded, codesTracker, codesLine, codes};
+ghost use Rattle.coding.specs.Answer.{numberOf, answerWords, answerOf, answerCoded};
+
+// The words of a tracker.
+pub const TRACKER_WORDS: usize = 6;
+
+// Where the lines begin, and the trackers.
+const LINES: usize = 4;
+const TRACKERS: usize = 68;
+
+// The words of a state.
+pub const STATE_WORDS: usize = 116;
+
+// The words of a step's answer.
+pub const ANSWER_WORDS: usize = 6;
+
+// What a refused call gives is this and the refusal.
+pub const REFUSED: u64 = 4294967296;
+
+// A field of a state that has 32 bits is below this, and one that has 16.
+const BITS_32: u64 = 4294967296;
+const BITS_16: u64 = 65536;
+
+// The phases.
+const PHASES: u64 = 6;
+
+// What words code: a state, or none. Where they code none the state is zero throughout, which is broken.
+pub struct Decoded {
+    pub coded: bool,
+    pub state: State,
+}
+
+// The number of a phase.
+fn phase_number(phase: Phase) -> u64
+    ensures { λ r. ⌜ r ≡ phaseNumber phase ⌝ }
+{
+    match phase {
+        Phase::Idle => 0,
+        Phase::Probe => 1,
+        Phase::Map => 2,
+        Phase::Leaf => 3,
+        Phase::Set => 4,
+        Phase::Clear => 5,
+    }
+}
+
+// The phase that has a number.
+fn phase_of(k: u64) -> Phase
+    ensures { λ r. ⌜ r ≡ phaseOf k ⌝ }
+{
+    if k == 1 {
+        return Phase::Probe;
+    }
+    if k == 2 {
+        return Phase::Map;
+    }
+    if k == 3 {
+        return Phase::Leaf;
+    }
+    if k == 4 {
+        return Phase::Set;
+    }
+    if k == 5 {
+        return Phase::Clear;
+    }
+    Phase::Idle
+}
+
+// No word from `at` on is too wide for its field of a tracker.
+fn codes_tracker(words: &[u64], at: usize) -> bool
+    requires { ⌜ at + trackerWords ≤ length (now words) ⌝ }
+    ensures { λ r. ⌜ r ≡ codesTracker (now (words .entry)) at ⌝ }
+{
+    laws::both(
+        laws::both(
+            words[at] < PHASES,
+            laws::both(words[at + 1] < 2, words[at + 2] < 2),
+        ),
+        laws::both(
+            words[at + 3] < BITS_32,
+            laws::both(words[at + 4] < BITS_32, words[at + 5] < BITS_16),
+        ),
+    )
+}
+
+// None of the lines' words is too wide for a line.
+fn codes_lines(words: &[u64]) -> bool
+    requires { ⌜ length (now words) ≡ stateWords ⌝ }
+    ensures { λ r. ⌜ r ≡ all (codesLine (now (words .entry))) mostLines ⌝ }
+{
+    let mut i: usize = 0;
+    while i < Geometry::MOST_LINES {
+        if BITS_32 <= words[LINES + i] {
+            return false;
+        }
+        i += 1;
+    }
+    true
+}
+
+// None of the trackers' words is too wide for its field.
+fn codes_trackers(words: &[u64]) -> bool
+    requires { ⌜ length (now words) ≡ stateWords ⌝ }
+    ensures { λ r. ⌜ r ≡ all (λ x. codesTracker (now (words .entry)) (trackerPlace x)) mostTrackers ⌝ }
+{
+    let mut x: usize = 0;
+    while x < Geometry::MOST_TRACKERS {
+        if codes_tracker(words, TRACKERS + TRACKER_WORDS * x) {
+            x += 1;
+        } else {
+            return false;
+        }
+    }
+    true
+}
+
+// The words code a state.
+pub fn codes(words: &[u64]) -> bool
+    ensures { λ r. ⌜ r ≡ codes (now (words .entry)) ⌝ }
+{
+    if words.len() != STATE_WORDS {
+        return false;
+    }
+    laws::both(
+        laws::both(words[0] < BITS_32, words[1] < BITS_32),
+        laws::both(codes_lines(words), codes_trackers(words)),
+    )
+}
+
+// The tracker that the words from `at` on code.
+fn tracker_in(words: &[u64], at: usize) -> Tracker
+    requires { ⌜ (at + trackerWords ≤ length (now words)) × (codesTracker (now words) at ≡ true) ⌝ }
+    ensures { λ r. ⌜ r ≡ trackerIn (now (words .entry)) at ⌝ }
+{
+    Tracker {
+        phase: phase_of(words[at]),
+        write: words[at + 1] == 1,
+        bottom: words[at + 2] == 1,
+        group: words[at + 3] as u32,
+        value: words[at + 4] as u32,
+        turns: words[at + 5] as u16,
+    }
+}
+
+// The lines.
+fn lines_in(words: &[u64]) -> [u32; Geometry::MOST_LINES]
+    requires { ⌜ codes (now words) ≡ true ⌝ }
+    ensures { λ r. ⌜ r ≡ part (now (words .entry)) linesPlace mostLines ⌝ }
+{
+    let mut lines = [0u32; Geometry::MOST_LINES];
+    let mut i: usize = 0;
+    while i < Geometry::MOST_LINES {
+        lines[i] = words[LINES + i] as u32;
+        i += 1;
+    }
+    lines
+}
+
+// The trackers.
+fn trackers_in(words: &[u64]) -> [Tracker; Geometry::MOST_TRACKERS]
+    requires { ⌜ codes (now words) ≡ true ⌝ }
+    ensures { λ r. ⌜ r ≡ trackersTo (now (words .entry)) mostTrackers ⌝ }
+{
+    let idle = Tracker::rest();
+    let mut trackers = [idle; Geometry::MOST_TRACKERS];
+    let mut x: usize = 0;
+    while x < Geometry::MOST_TRACKERS {
+        let tracker = tracker_in(words, TRACKERS + TRACKER_WORDS * x);
+        trackers[x] = tracker;
+        x += 1;
+    }
+    trackers
+}
+
+// The state that words code.
+fn state_in(words: &[u64]) -> State
+    requires { ⌜ codes (now words) ≡ true ⌝ }
+    ensures { λ r. ⌜ seen r ≡ decoded (now (words .entry)) ⌝ }
+{
+    let lines = lines_in(words);
+    let trackers = trackers_in(words);
+    State {
+        n: words[0] as u32,
+        t: words[1] as u32,
+        l: words[2] as usize,
+        hand: words[3] as usize,
+        lines,
+        trackers,
+    }
+}
+
+// A state that is zero throughout.
+fn zero() -> State
+    ensures { λ r. ⌜ seen r ≡ zeroState ⌝ }
+{
+    let idle = Tracker::rest();
+    State {
+        n: 0,
+        t: 0,
+        l: 0,
+        hand: 0,
+        lines: [0; Geometry::MOST_LINES],
+        trackers: [idle; Geometry::MOST_TRACKERS],
+    }
+}
+
+// What words code.
+pub fn decode(words: &[u64]) -> Decoded
+    ensures { λ r. ⌜ (r .coded ≡ codes (now (words .entry))) × (seen (r .state) ≡ pick (codes (now (words .entry))) (decoded (now (words .entry))) zeroState) ⌝ }
+{
+    if codes(words) {
+        let state = state_in(words);
+        return Decoded { coded: true, state };
+    }
+    let state = zero();
+    Decoded { coded: false, state }
+}
+
+// n, T, L and the hand.
+fn put_shape(words: &mut [u64], n: u32, t: u32, l: usize, hand: usize)
+    requires { ⌜ linesPlace ≤ length (now words) ⌝ }
+    ensures { λ _. ⌜ now (words .exit) ≡ splice (now (words .entry)) 0 (n ∷ t ∷ l ∷ hand ∷ []) ⌝ }
+{
+    words[0] = n as u64;
+    words[1] = t as u64;
+    words[2] = l as u64;
+    words[3] = hand as u64;
+}
+
+// The lines.
+fn put_lines(words: &mut [u64], lines: [u32; Geometry::MOST_LINES])
+    requires { ⌜ length (now words) ≡ stateWords ⌝ }
+    ensures { λ _. ⌜ now (words .exit) ≡ splice (now (words .entry)) linesPlace lines ⌝ }
+{
+    let mut i: usize = 0;
+    while i < Geometry::MOST_LINES {
+        words[LINES + i] = lines[i] as u64;
+        i += 1;
+    }
+}
+
+// A word of a test.
+fn bit(b: bool) -> u64
+    ensures { λ r. ⌜ r ≡ one b ⌝ }
+{
+    if b { 1 } else { 0 }
+}
+
+// A tracker's words, from `at` on.
+fn put_tracker(words: &mut [u64], at: usize, tracker: Tracker)
+    requires { ⌜ at + trackerWords ≤ length (now words) ⌝ }
+    ensures { λ _. ⌜ now (words .exit) ≡ splice (now (words .entry)) at (trackerCoded tracker) ⌝ }
+{
+    let phase = tracker.phase;
+    words[at] = phase_number(phase);
+    words[at + 1] = bit(tracker.write);
+    words[at + 2] = bit(tracker.bottom);
+    words[at + 3] = tracker.group as u64;
+    words[at + 4] = tracker.value as u64;
+    words[at + 5] = tracker.turns as u64;
+}
+
+// The trackers, of which there are eight.
+fn put_trackers(words: &mut [u64], trackers: [Tracker; Geometry::MOST_TRACKERS])
+    requires { ⌜ length (now words) ≡ stateWords ⌝ }
+    ensures { λ _. ⌜ (now (words .exit) ≡ splice (now (words .entry)) (trackerPlace 0) (trackersCoded trackers)) × (length trackers ≡ mostTrackers) ⌝ }
+{
+    let mut x: usize = 0;
+    while x < Geometry::MOST_TRACKERS {
+        let tracker = trackers[x];
+        put_tracker(words, TRACKERS + TRACKER_WORDS * x, tracker);
+        x += 1;
+    }
+}
+
+// The words become the coding of a state, where there are as many as a state has; else they stay as they came.
+pub fn encode(state: State, words: &mut [u64])
+    ensures { λ _. ⌜ now (words .exit) ≡ pick (eqb (length (now (words .entry))) stateWords) (coded (seen state)) (now (words .entry)) ⌝ }
+{
+    if words.len() != STATE_WORDS {
+        return;
+    }
+    put_shape(words, state.n, state.t, state.l, state.hand);
+    let lines = state.lines;
+    put_lines(words, lines);
+    let trackers = state.trackers;
+    put_trackers(words, trackers);
+}
+
+// The number that a call gives: 0, or REFUSED plus the refusal.
+pub fn number_of(answer: Answer) -> u64
+    ensures { λ r. ⌜ r ≡ numberOf (says answer) ⌝ }
+{
+    match answer {
+        Answer::Accepted => 0,
+        Answer::Wait => 0,
+        Answer::Moved => 0,
+        Answer::Read(_, _) => 0,
+        Answer::Done(_) => 0,
+        Answer::Same(_) => 0,
+        Answer::No(c) => REFUSED + c as u64,
+    }
+}
+
+// The words of an answer.
+fn put_words(words: &mut [u64], said: u64, v: u32, k: u16)
+    requires { ⌜ length (now words) ≡ answerWords ⌝ }
+    ensures { λ _. ⌜ now (words .exit) ≡ answerOf said v k ⌝ }
+{
+    words[0] = said;
+    words[1] = v as u64;
+    words[2] = k as u64;
+    words[3] = 0;
+    words[4] = 0;
+    words[5] = 0;
+}
+
+// The words become those of a step's answer, where there are as many as an answer has; refused, and else, they stay as they came.
+pub fn put_answer(answer: Answer, words: &mut [u64])
+    ensures { λ _. ⌜ now (words .exit) ≡ pick (eqb (length (now (words .entry))) answerWords) (answerCoded (says answer) (now (words .entry))) (now (words .entry)) ⌝ }
+{
+    if words.len() != ANSWER_WORDS {
+        return;
+    }
+    match answer {
+        Answer::Accepted => {}
+        Answer::Wait => put_words(words, 1, 0, 0),
+        Answer::Moved => put_words(words, 2, 0, 0),
+        Answer::Read(v, k) => put_words(words, 3, v, k),
+        Answer::Done(k) => put_words(words, 4, 0, k),
+        Answer::Same(k) => put_words(words, 5, 0, k),
+        Answer::No(_) => {}
+    }
+}

@@ -1,0 +1,70 @@
+-- A law for each way out of restoring and of reading a record.
+use mathlib.Core.Path.{_≡_, refl, ap, sym, _∙_}
+use mathlib.Core.List.{List, [], _∷_}
+use mathlib.Core.Bool.{Bool, true, false}
+use Prim.Native.Nat.{ℕ, _+_, _≤_, _<_}
+use native.Mathlib.Omega.{arith}
+use borrow.Author.Tests.{eq-eqb, ne-eqb}
+use lib.Dec.{eqb}
+use lib.ListN.{length, set}
+use Rattle.laws.specs.Choice.{pick, both}
+use Rattle.laws.specs.Refusal.{refusal}
+use Rattle.laws.proofs.Refusal.{refusal-0, refusal-first, unless-0, unless-no}
+use Rattle.geometry.specs.TagMemory.{memoryLength}
+use Rattle.image.specs.Test.{lengthRight, checksRight, rulesKept, leavesIn, formOf, imageTest, testBy}
+use Rattle.image.specs.Calls.{restoringRefusal}
+use Rattle.coding.specs.Answer.{refusedBy}
+use Rattle.reader.specs.declared.Reading.{Reading}
+use Rattle.reader.specs.Read.{readingAt}
+use Rattle.coding.proofs.Stores.{stores, splice-all}
+use Rattle.model.specs.Archive.{restoringAnswer, recordRead}
+
+-- no refusal of restoring is above 11
+test-most : (image : List ℕ) → imageTest image ≤ 11
+unfolding testBy
+test-most image = by-tests (both (lengthRight image) (checksRight (formOf image) image)) (rulesKept (formOf image) image)
+  where
+    by-tests : (b c : Bool) → pick b (pick c 0 11) 10 ≤ 11
+    by-tests true true = omega arith
+    by-tests true false = omega arith
+    by-tests false c = omega arith
+
+module _ (image : List ℕ) (room : ℕ) where
+  pub restoring-most : restoringRefusal image room ≤ 11
+  unfolding restoringRefusal refusal
+  restoring-most = by-tests (eqb (imageTest image) 0) (eqb room (memoryLength (leavesIn image))) (test-most image)
+    where
+      by-tests : (b c : Bool) {k : ℕ} → k ≤ 11 → pick b (pick c 0 2) k ≤ 11
+      by-tests true true h = omega arith
+      by-tests true false h = omega arith
+      by-tests false c h = h
+
+  pub restoring-no : (c : ℕ) → c ≡ restoringRefusal image room → (c ≡ 0 → ⊥) → 4294967296 + c ≡ restoringAnswer image room
+  unfolding restoringAnswer
+  restoring-no c e h = let p : 0 < c = omega arith in rw (← e) (sym (unless-no 0 refusedBy p))
+
+  pub restoring-0 : (c : ℕ) → c ≡ restoringRefusal image room → c ≡ 0 → 0 ≡ restoringAnswer image room
+  unfolding restoringAnswer
+  restoring-0 c e h = let p : restoringRefusal image room ≡ 0 = sym e ∙ h in sym (unless-0 0 refusedBy p)
+
+-- a record's words
+module _ (image : List ℕ) (p : ℕ) (words : List ℕ) where
+  pub record-2 : (length words ≡ 2 → ⊥) → (4294967298, words) ≡ recordRead image p words
+  unfolding recordRead
+  record-2 h =
+      let e : refusal ((eqb (length words) 2, 2) ∷ []) ≡ 2 = refusal-first [] _ 2 [] tt (ne-eqb (length words) 2 h) in
+      rw e (sym (unless-no _ _ (omega arith)))
+
+  module _ (e : length words ≡ 2) (r : Reading) (q : r ≡ readingAt image p) where
+    record-by : recordRead image p words ≡ pick (r .found) (1, (r .leaf ∷ r .start ∷ [])) (0, words)
+    unfolding recordRead
+    record-by = rw (← q) (unless-0 _ _ (refusal-0 ((eqb (length words) 2, 2) ∷ []) (eq-eqb (length words) 2 e, tt)))
+
+    pub record-end : r .found ≡ false → (0, words) ≡ recordRead image p words
+    record-end f = sym (record-by ∙ rw f)
+
+    pub record-is : r .found ≡ true → (1, set (set words 0 (r .leaf)) 1 (r .start)) ≡ recordRead image p words
+    record-is f =
+        let z : set (set words 0 (r .leaf)) 1 (r .start) ≡ r .leaf ∷ r .start ∷ [] =
+        stores words 0 (r .leaf ∷ r .start ∷ []) (omega arith) ∙ splice-all words (r .leaf ∷ r .start ∷ []) (sym e) in
+        rw z (sym (record-by ∙ rw f))
