@@ -4,7 +4,7 @@
 //! are 1,000,000 bytes of the image. The largest memory, with 60 of 100 leaves in use and
 //! with 2.
 
-#[path = "../tests/model.rs"]
+#[path = "../tests/model/mod.rs"]
 mod model;
 
 use model::draw::{self, Random};

@@ -3,7 +3,7 @@
 //! to 8 trackers are busy at a time, for a thousand steps each; half of the accesses are
 //! writes, a third of those of zero; half of the groups lie in 24 leaves.
 
-#[path = "../tests/model.rs"]
+#[path = "../tests/model/mod.rs"]
 mod model;
 
 use model::draw::Random;

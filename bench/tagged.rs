@@ -4,7 +4,7 @@
 //! largest memory: none of its leaves in use, 2 of 100, and 60. The whole memory is asked; the
 //! sweep asks again and again from the group after the last one found.
 
-#[path = "../tests/model.rs"]
+#[path = "../tests/model/mod.rs"]
 mod model;
 
 use model::draw::{self, Random};
