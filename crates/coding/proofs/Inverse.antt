@@ -1,16 +1,14 @@
 -- The coding and its inverse: every state has one coding, which codes it; words that code a state are its coding.
 use mathlib.Core.Path.{_≡_, refl, ap, sym, _∙_}
 use mathlib.Core.List.{List, [], _∷_, _++_, append-assoc}
-use mathlib.Core.Bool.{Bool, true, false}
+use mathlib.Core.Bool.{true}
 use mathlib.Core.Logic.{⊎-elim}
 use Prim.Native.Nat.{ℕ, zero, suc, _+_, _*_, _≤_, _<_}
 use native.Mathlib.Omega.{arith}
-use borrow.Author.Tests.{ltb-true, lt-ltb, eq-eqb}
-use lib.Dec.{eqb, ltb}
-use lib.ListN.{length, take, drop, getD, length-append, List·getD-append}
+use borrow.Author.Tests.{lt-ltb, eq-eqb}
+use lib.ListN.{length, take, drop, getD, List·getD-append}
 use lib.Seq.{take-all, getD-append-add, getD-append-seam, getD-at}
 use Rattle.laws.specs.Choice.{one}
-use Rattle.laws.specs.Scan.{all}
 use Rattle.laws.specs.Bytes.{part}
 use Rattle.laws.proofs.Choice.{both-true}
 use Rattle.laws.proofs.Scan.{all-is}
@@ -20,11 +18,11 @@ use Rattle.geometry.specs.TagMemory.{values, mostTrackers, mostLines}
 use Rattle.tracker.specs.declared.Tracker.{Tracker}
 use Rattle.tracker.specs.Tracker.{idle, mostTurns}
 use Rattle.rules.specs.State.{State, trackerAt}
-use Rattle.coding.specs.Words.{trackerPlace, stateWords, phaseNumber, shapeCoded, trackerCoded, trackersCoded, coded, phaseOf, trackerIn, trackersTo, decoded, codesTracker, codesShape, codesLine, codes}
+use Rattle.coding.specs.Words.{trackerPlace, stateWords, phaseNumber, shapeCoded, trackerCoded, trackersCoded, coded, trackerIn, trackersTo, decoded, codesTracker, codesShape, codesLine, codes}
 use Rattle.coding.specs.Fields.{TrackerFits, Fits}
 use Rattle.coding.proofs.Stores.{part-4, part-6}
 use Rattle.coding.proofs.Trackers.{phaseNumber-phaseOf, phaseNumber-below, one-eqb, one-below, trackersTo-coded, trackers-append, trackers-one, trackers-split, length-before}
-use Rattle.coding.proofs.Turns.{Narrow, narrow, Coding, coding, length-trackersTo, length-coded}
+use Rattle.coding.proofs.Turns.{narrow, coding, length-trackersTo, length-coded}
 
 -- the words before the trackers
 front : State → List ℕ
@@ -101,8 +99,14 @@ tracker-codes : (q r : List ℕ) (t : Tracker) → TrackerFits t → codesTracke
 unfolding codesTracker trackerCoded
 tracker-codes q r t f =
     let ws : List ℕ = phaseNumber (t .phase) ∷ one (t .write) ∷ one (t .bottom) ∷ t .group ∷ t .value ∷ t .turns ∷ r in
-    rw (getD-append-seam q (phaseNumber (t .phase)) (one (t .write) ∷ one (t .bottom) ∷ t .group ∷ t .value ∷ t .turns ∷ r) 0,
-    getD-append-add q ws 1 0, getD-append-add q ws 2 0, getD-append-add q ws 3 0, getD-append-add q ws 4 0, getD-append-add q ws 5 0)
+    rw (
+      getD-append-seam q (phaseNumber (t .phase)) (one (t .write) ∷ one (t .bottom) ∷ t .group ∷ t .value ∷ t .turns ∷ r) 0,
+      getD-append-add q ws 1 0,
+      getD-append-add q ws 2 0,
+      getD-append-add q ws 3 0,
+      getD-append-add q ws 4 0,
+      getD-append-add q ws 5 0,
+    )
     (both-true _ _
     (both-true _ _ (lt-ltb (phaseNumber (t .phase)) 6 (phaseNumber-below (t .phase))) (both-true _ _ (lt-ltb (one (t .write)) 2 (one-below (t .write))) (lt-ltb (one (t .bottom)) 2 (one-below (t .bottom)))))
     (both-true _ _ (lt-ltb (t .group) values (f .group)) (both-true _ _ (lt-ltb (t .value) values (f .value)) (lt-ltb (t .turns) (suc mostTurns) (omega (arith, f .turns))))))

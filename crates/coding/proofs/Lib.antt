@@ -2,3 +2,4 @@ pub mod Stores
 pub mod Trackers
 pub mod Turns
 pub mod Inverse
+pub mod One

@@ -6,17 +6,14 @@ use Prim.Native.Nat.{ℕ, zero, suc, _+_, _*_, _≤_, _<_}
 use native.Mathlib.Numerals.{add-one}
 use native.Mathlib.Omega.{arith}
 use lib.Dec.{eqb}
-use lib.ListN.{length, take, drop, getD, set, length-append}
-use lib.Seq.{take-suc, set-at, drop-cons, append-snoc, getD-append-seam, getD-append-add, length-take-le, split-at}
+use lib.ListN.{length, take, drop, getD, length-append}
+use lib.Seq.{take-suc, getD-append-seam, getD-append-add, length-take-le, split-at}
 use Rattle.laws.specs.Choice.{one}
-use Rattle.laws.specs.Bytes.{part}
-use Rattle.laws.proofs.Parts.{part-add, part-none}
 use Rattle.tracker.specs.declared.Phase.{Phase}
 use Rattle.tracker.specs.declared.Phase.the-variants.{Idle, Probe, Map, Leaf, Set, Clear}
 use Rattle.tracker.specs.declared.Tracker.{Tracker}
 use Rattle.tracker.specs.Tracker.{idle}
 use Rattle.coding.specs.Words.{phaseNumber, phaseOf, trackerPlace, trackerCoded, trackersCoded, trackerIn, trackersTo}
-use Rattle.coding.proofs.Stores.{part-6}
 
 -- a phase has one number, and a number below six one phase
 pub phaseOf-phaseNumber : (p : Phase) → phaseOf (phaseNumber p) ≡ p
@@ -89,13 +86,17 @@ trackers-more ts x h =
 pub trackerIn-coded : (q r : List ℕ) (t : Tracker) → trackerIn (q ++ (trackerCoded t ++ r)) (length q) ≡ t
 unfolding trackerIn trackerCoded
 trackerIn-coded q r t =
-    rw (getD-append-seam q (phaseNumber (t .phase)) (one (t .write) ∷ one (t .bottom) ∷ t .group ∷ t .value ∷ t .turns ∷ r) 0,
-    getD-append-add q (phaseNumber (t .phase) ∷ one (t .write) ∷ one (t .bottom) ∷ t .group ∷ t .value ∷ t .turns ∷ r) 1 0,
-    getD-append-add q (phaseNumber (t .phase) ∷ one (t .write) ∷ one (t .bottom) ∷ t .group ∷ t .value ∷ t .turns ∷ r) 2 0,
-    getD-append-add q (phaseNumber (t .phase) ∷ one (t .write) ∷ one (t .bottom) ∷ t .group ∷ t .value ∷ t .turns ∷ r) 3 0,
-    getD-append-add q (phaseNumber (t .phase) ∷ one (t .write) ∷ one (t .bottom) ∷ t .group ∷ t .value ∷ t .turns ∷ r) 4 0,
-    getD-append-add q (phaseNumber (t .phase) ∷ one (t .write) ∷ one (t .bottom) ∷ t .group ∷ t .value ∷ t .turns ∷ r) 5 0,
-    phaseOf-phaseNumber (t .phase), eqb-one (t .write), eqb-one (t .bottom))
+    rw (
+      getD-append-seam q (phaseNumber (t .phase)) (one (t .write) ∷ one (t .bottom) ∷ t .group ∷ t .value ∷ t .turns ∷ r) 0,
+      getD-append-add q (phaseNumber (t .phase) ∷ one (t .write) ∷ one (t .bottom) ∷ t .group ∷ t .value ∷ t .turns ∷ r) 1 0,
+      getD-append-add q (phaseNumber (t .phase) ∷ one (t .write) ∷ one (t .bottom) ∷ t .group ∷ t .value ∷ t .turns ∷ r) 2 0,
+      getD-append-add q (phaseNumber (t .phase) ∷ one (t .write) ∷ one (t .bottom) ∷ t .group ∷ t .value ∷ t .turns ∷ r) 3 0,
+      getD-append-add q (phaseNumber (t .phase) ∷ one (t .write) ∷ one (t .bottom) ∷ t .group ∷ t .value ∷ t .turns ∷ r) 4 0,
+      getD-append-add q (phaseNumber (t .phase) ∷ one (t .write) ∷ one (t .bottom) ∷ t .group ∷ t .value ∷ t .turns ∷ r) 5 0,
+      phaseOf-phaseNumber (t .phase),
+      eqb-one (t .write),
+      eqb-one (t .bottom),
+    )
 
 -- the words of tracker x among those of all
 pub trackers-split : (p : List ℕ) (ts : List Tracker) (x : ℕ) → x < length ts

@@ -1,23 +1,21 @@
 -- What each turn of a loop over the words does, and what a state's words are below.
 use mathlib.Core.Path.{_≡_, refl, ap, sym, _∙_}
 use mathlib.Core.List.{List, [], _∷_, _++_, append-nil, append-assoc}
-use mathlib.Core.Bool.{Bool, true, false}
+use mathlib.Core.Bool.{true}
 use Prim.Native.Nat.{ℕ, zero, suc, _+_, _*_, _≤_, _<_}
 use native.Mathlib.Numerals.{add-one}
 use native.Mathlib.Omega.{arith}
 use borrow.Author.Tests.{ltb-true, eqb-true, eq-eqb, ne-eqb}
-use lib.Dec.{eqb, ltb}
+use lib.Dec.{eqb}
 use lib.ListN.{length, take, drop, getD, set, length-append, drop-of-length-le}
 use lib.Seq.{set-at, drop-cons, append-snoc, length-take-le, take-all}
 use Rattle.laws.specs.Choice.{pick}
-use Rattle.laws.specs.Scan.{all}
 use Rattle.laws.specs.Bytes.{part, splice}
 use Rattle.laws.proofs.Choice.{both-left, both-right}
 use Rattle.laws.proofs.Scan.{all-at}
-use Rattle.laws.proofs.Splice.{length-splice, length-part′}
+use Rattle.laws.proofs.Splice.{length-part′}
 use Rattle.laws.proofs.Parts.{part-add}
-use Rattle.laws.proofs.Writes.{splice-then, splice-set, splice-copy}
-use Rattle.tracker.specs.declared.Phase.{Phase}
+use Rattle.laws.proofs.Writes.{splice-then, splice-set}
 use Rattle.tracker.specs.declared.Phase.the-variants.{Idle, Probe, Map, Leaf, Set, Clear}
 use Rattle.tracker.specs.declared.Tracker.{Tracker}
 use Rattle.tracker.specs.Tracker.{idle}
@@ -25,7 +23,7 @@ use Rattle.rules.specs.State.{State}
 use Rattle.tracker.specs.declared.Answer.{Answer}
 use Rattle.tracker.specs.Answer.{says}
 use Rattle.coding.specs.Answer.{answerCoded}
-use Rattle.coding.specs.Words.{trackerPlace, stateWords, shapeCoded, coded, phaseOf, trackerCoded, trackersCoded, trackerIn, trackersTo, codesTracker, codesShape, codesLine, codes}
+use Rattle.coding.specs.Words.{trackerPlace, stateWords, shapeCoded, coded, phaseOf, trackerCoded, trackersCoded, trackerIn, trackersTo, codesTracker, codesLine, codes}
 use Rattle.coding.proofs.Stores.{part-1, splice-all}
 use Rattle.coding.proofs.Trackers.{length-trackers, trackers-more}
 

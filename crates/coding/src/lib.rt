@@ -26,6 +26,7 @@ pub const TRACKER_WORDS: usize = 6;
 
 // Where the lines begin, and the trackers.
 const LINES: usize = 4;
+
 const TRACKERS: usize = 68;
 
 // The words of a state.
@@ -39,6 +40,7 @@ pub const REFUSED: u64 = 4294967296;
 
 // A field of a state that has 32 bits is below this, and one that has 16.
 const BITS_32: u64 = 4294967296;
+
 const BITS_16: u64 = 65536;
 
 // The phases.
@@ -233,7 +235,10 @@ pub fn decode(words: &[u64]) -> Decoded
         return Decoded { coded: true, state };
     }
     let state = zero();
-    Decoded { coded: false, state }
+    Decoded {
+        coded: false,
+        state,
+    }
 }
 
 // n, T, L and the hand.

@@ -1,3 +1,4 @@
 pub mod Ways
 pub mod Unchanged
 pub mod Shown
+pub mod One

@@ -1,11 +1,11 @@
 -- A call that gives a refusal changes nothing; a refused fresh or open leaves the words of the zero state, unless a number of words is wrong.
-use mathlib.Core.Path.{_≡_, refl, ap, sym, _∙_}
+use mathlib.Core.Path.{_≡_, refl, ap, _∙_}
 use mathlib.Core.List.{List, _++_}
-use mathlib.Core.Bool.{true, false}
+use mathlib.Core.Bool.{false}
 use mathlib.Core.Logic.{_⊎_, inl, inr, ⊎-elim}
 use Prim.Native.Nat.{ℕ, _+_, _<_}
 use native.Mathlib.Omega.{arith}
-use lib.ListN.{length, getD, replicate}
+use lib.ListN.{getD, replicate}
 use Rattle.laws.specs.Refusal.{refusal}
 use Rattle.laws.proofs.Refusal.{refusal-0, refusal-hold, refused-or-not, unless-by}
 use Rattle.tracker.specs.declared.Access.{Access}
@@ -16,8 +16,8 @@ use Rattle.rules.specs.Calls.{Out, issue, stepNo, step, drain}
 use Rattle.rules.proofs.Keeps.{isNo}
 use Rattle.rules.proofs.Calls.{step-free, step-not-refused}
 use Rattle.cache.proofs.Refusals.{step-refused}
-use Rattle.coding.specs.Words.{coded, decoded, codes, trackersCoded, trackerCoded}
-use Rattle.coding.specs.Answer.{numberOf, answerCoded}
+use Rattle.coding.specs.Words.{coded, decoded, trackersCoded, trackerCoded}
+use Rattle.coding.specs.Answer.{numberOf}
 use Rattle.coding.proofs.Inverse.{coded-decoded}
 use Rattle.harness.specs.Calls.{Done, begins, tagFresh, tagOpen, wordTests, called, tagIssue, tagDrain, stepTests, tagStep}
 

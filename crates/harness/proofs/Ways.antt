@@ -1,6 +1,6 @@
 -- A law for each way out of a call on words.
 use mathlib.Core.Path.{_≡_, refl, ap, sym, _∙_}
-use mathlib.Core.List.{List, [], _∷_, _++_}
+use mathlib.Core.List.{List, [], _∷_}
 use mathlib.Core.Bool.{Bool, true, false}
 use mathlib.Core.Logic.{⊎-elim}
 use Prim.Native.Nat.{ℕ, _+_, _-_, _*_, _≤_, _<_}
@@ -9,13 +9,12 @@ use borrow.Author.Tests.{eq-eqb, ne-eqb, lt-ltb, le-ltb}
 use lib.Dec.{eqb, ltb}
 use lib.ListN.{length, getD}
 use Rattle.laws.specs.Choice.{pick, both, one}
-use Rattle.laws.specs.Refusal.{Tests, refusal, unless}
-use Rattle.laws.proofs.Choice.{true-or-false, both-true, both-when, both-false-left, both-false-right}
+use Rattle.laws.specs.Refusal.{refusal, unless}
+use Rattle.laws.proofs.Choice.{both-when, both-false-left}
 use Rattle.laws.proofs.Splice.{lt-or-ge}
 use Rattle.laws.proofs.Refusal.{refusal-0, refusal-first, unless-0, unless-no}
 use Rattle.geometry.specs.TagMemory.{groups, mostLeaves, values}
 use Rattle.geometry.proofs.Groups.{groups-most}
-use Rattle.tracker.specs.declared.Access.{Access}
 use Rattle.line.specs.Find.{lineOf}
 use Rattle.rules.specs.State.{State, zeroState}
 use Rattle.rules.specs.Whole.{whole}

@@ -1,6 +1,5 @@
 -- The calls of a licensee's harness: the state is lent as words, and each gives a number. Each is the rules' own call on the state that the words code.
 use mathlib.Core.List.{List, [], _∷_}
-use mathlib.Core.Bool.{Bool}
 use Prim.Native.Nat.{ℕ, _+_, _-_, _*_}
 use lib.Dec.{eqb, ltb}
 use lib.ListN.{length, getD}

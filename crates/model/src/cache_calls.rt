@@ -17,12 +17,7 @@ pub extern "C" fn tag_fresh(
 
 // A memory as it is, under a device: 0, or 4,294,967,296 plus the refusal.
 #[no_mangle]
-pub extern "C" fn tag_open(
-    device: &[u64],
-    state: &mut [u64],
-    bytes: &[u8],
-    memory: &[u8],
-) -> u64
+pub extern "C" fn tag_open(device: &[u64], state: &mut [u64], bytes: &[u8], memory: &[u8]) -> u64
     ensures { λ r. ⌜ done r (now (state .exit)) (now (bytes .entry)) (now (memory .entry)) ≡ tagOpen (now (device .entry)) (now (state .entry)) (now (bytes .entry)) (now (memory .entry)) ⌝ }
 {
     harness::open(device, state, bytes, memory)

@@ -1,6 +1,6 @@
 -- `codes` meets its contract: the length, then the tests of the definition.
 use borrow.Author.Needs.{needs}
-use mathlib.Core.Path.{refl, sym}
+use mathlib.Core.Path.{sym}
 use borrow.Author.Tests.{eq-eqb, ne-eqb}
 use Rattle.laws.proofs.Choice.{both-false-left, both-when}
 use Rattle.coding.specs.Words.{codes}

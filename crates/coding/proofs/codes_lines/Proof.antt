@@ -1,7 +1,8 @@
 -- `codes_lines` meets its contract. The invariant: each of the first i lines is below 4,294,967,296.
 use mathlib.Core.Path.{_≡_, sym}
 use mathlib.Core.Bool.{true}
-use Prim.Native.Nat.{_≤_, _-_}
+use Prim.Native.Nat.{_+_, _≤_, _-_}
+use lib.ListN.{getD}
 use borrow.Author.Tests.{le-ltb, lt-ltb}
 use Rattle.laws.specs.Scan.{all}
 use Rattle.laws.proofs.Scan.{all-zero, all-more, all-fails}
@@ -29,7 +30,7 @@ shared-slice-read-if1 : tie.Need-shared-slice-read-if1 Inv-loop μ-loop
 shared-slice-read-if1 c = omega arith
 
 returns : tie.Need-returns Inv-loop μ-loop
-returns c = sym (all-fails _ 64 (c .before .before .before .loop .i) (omega arith) (le-ltb _ _ (c .if1 .taken)))
+returns c = sym (all-fails _ 64 (c .before .before .before .loop .i) (omega arith) (le-ltb (getD (c .before .before .before .before .args .words .now) (4 + c .before .before .before .loop .i) 0) 4294967296 (omega arith)))
 
 add-i : tie.Need-add-i Inv-loop μ-loop
 add-i c = omega arith
@@ -38,7 +39,7 @@ loop-less : tie.Need-loop-less Inv-loop μ-loop
 loop-less c = omega arith
 
 loop-again : tie.Need-loop-again Inv-loop μ-loop
-loop-again c = (omega arith, all-more _ (c .before .before .before .loop .i) (c .before .before .before .loop .inv .1) (lt-ltb _ _ (c .if1 .left)))
+loop-again c = (omega arith, all-more _ (c .before .before .before .loop .i) (c .before .before .before .loop .inv .1) (lt-ltb (getD (c .before .before .before .before .args .words .now) (4 + c .before .before .before .loop .i) 0) 4294967296 (omega arith)))
 
 returns-2 : tie.Need-returns-2 Inv-loop μ-loop
 returns-2 c = let e : c .before .loop .i ≡ 64 = omega arith in sym (rw e at (c .before .loop .inv .1))

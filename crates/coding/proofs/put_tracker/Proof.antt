@@ -1,6 +1,5 @@
 -- `put_tracker` meets its contract: six stores.
 use borrow.Author.Needs.{needs}
-use mathlib.Core.Path.{_∙_}
 use lib.ListN.{length-set}
 use Rattle.coding.specs.Words.{trackerCoded}
 use Rattle.coding.proofs.Stores.{stores-6}

@@ -1,6 +1,6 @@
 -- `put_trackers` meets its contract. The invariant: the words of the first x trackers are written.
 use borrow.Author.Needs.{needs}
-use mathlib.Core.Path.{_≡_, refl, sym, ap, _∙_}
+use mathlib.Core.Path.{_≡_, refl, sym, _∙_}
 use Prim.Native.Nat.{_≤_, _-_}
 use lib.ListN.{length, take}
 use Rattle.laws.specs.Bytes.{splice}

@@ -1,6 +1,6 @@
 -- `trackers_in` meets its contract. The invariant: the first x trackers are those of the first x places.
 use borrow.Author.Needs.{needs}
-use mathlib.Core.Path.{_≡_, refl, sym, ap, _∙_}
+use mathlib.Core.Path.{_≡_, refl, _∙_}
 use mathlib.Core.List.{_++_}
 use Prim.Native.Nat.{_≤_, _-_}
 use lib.ListN.{length, drop, length-set, replicate}

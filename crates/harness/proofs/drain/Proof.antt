@@ -1,6 +1,6 @@
 -- `drain` meets its contract: the words code a state, then the rules' own call.
 use borrow.Author.Needs.{needs}
-use mathlib.Core.Path.{refl, sym, ap, _∙_}
+use mathlib.Core.Path.{sym, _∙_}
 use Rattle.rules.specs.Calls.{drain}
 use borrow.Author.Tests.{not-true, not-false}
 use Rattle.harness.proofs.Ways.{words-2, words-4, called-no, called-does, refuses}

@@ -1,6 +1,6 @@
 -- `fresh` meets its contract: two lengths, then the rules' own call.
 use borrow.Author.Needs.{needs}
-use mathlib.Core.Path.{refl, sym, _∙_}
+use mathlib.Core.Path.{sym, _∙_}
 use Rattle.rules.specs.Calls.{fresh}
 use Rattle.harness.proofs.Ways.{begins-device, begins-state, begins-does, refuses}
 use Rattle.harness.proofs.fresh.Statement.{statement}

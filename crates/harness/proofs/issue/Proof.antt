@@ -1,6 +1,6 @@
 -- `issue` meets its contract: the words code a state, then the rules' own call.
 use borrow.Author.Needs.{needs}
-use mathlib.Core.Path.{refl, sym, ap, _∙_}
+use mathlib.Core.Path.{sym, ap, _∙_}
 use Rattle.rules.specs.Calls.{issue}
 use borrow.Author.Tests.{not-true, not-false}
 use Rattle.tracker.specs.declared.Access.{Access}

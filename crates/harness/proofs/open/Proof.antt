@@ -1,6 +1,6 @@
 -- `open` meets its contract: two lengths, then the rules' own call.
 use borrow.Author.Needs.{needs}
-use mathlib.Core.Path.{refl, sym, _∙_}
+use mathlib.Core.Path.{sym, _∙_}
 use Rattle.rules.specs.Calls.{opened}
 use Rattle.harness.proofs.Ways.{begins-device, begins-state, begins-does, refuses}
 use Rattle.harness.proofs.open.Statement.{statement}

@@ -1,10 +1,9 @@
 -- `step` meets its contract: the words code a state, then the rules' own step and its answer's words.
 use borrow.Author.Needs.{needs}
-use mathlib.Core.Path.{_≡_, refl, sym, _∙_}
-use mathlib.Core.List.{List}
-use Rattle.harness.specs.Calls.{Done, done, refused}
+use mathlib.Core.Path.{sym, _∙_}
+use Rattle.harness.specs.Calls.{refused}
 use borrow.Author.Tests.{not-true, not-false}
-use Rattle.harness.proofs.Ways.{step-state, step-answer, step-4, step-does, refuses}
+use Rattle.harness.proofs.Ways.{step-state, step-answer, step-4, step-does}
 use Rattle.harness.proofs.step.Statement.{statement}
 use Rattle.harness.proofs.step.Tie as tie
 
