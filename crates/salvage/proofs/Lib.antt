@@ -1,0 +1,4 @@
+pub mod Walk
+pub mod Output
+pub mod Kept
+pub mod Refusals
