@@ -1,9 +1,9 @@
 -- What is taken, by one induction over the records and blocks in input order; and with it: each record kept is one of a sound block, and has 64 bytes.
 use mathlib.Core.Path.{_≡_, refl, ap, sym, _∙_, subst}
 use mathlib.Core.List.{List, [], _∷_, _++_}
-use mathlib.Core.Bool.{Bool, true, false}
+use mathlib.Core.Bool.{true, false}
 use mathlib.Core.Logic.{⊎-elim}
-use Prim.Native.Nat.{ℕ, zero, suc, _+_, _*_, _/_, _%_, _-_, _≤_, _<_}
+use Prim.Native.Nat.{ℕ, zero, suc, _+_, _*_, _%_, _-_, _≤_, _<_}
 use native.Mathlib.Numerals.{add-one}
 use native.Mathlib.Omega.{arith}
 use lib.ListN.{length, getD, List·getD-append}
@@ -11,7 +11,8 @@ use Rattle.laws.proofs.Choice.{true-or-false}
 use Rattle.laws.proofs.Splice.{lt-or-ge, length-part′}
 use Rattle.image.specs.Encode.{Record, none, Sized}
 use Rattle.image.specs.Test.{wholeBlocks, imageBlock, countOf, recordIn, goodAbove, leavesIn}
-use Rattle.salvage.specs.Salvage.{Taken, used, above, takeRecord, takeRecords, takeBlock, takeBlocks, taken}
+use Rattle.salvage.specs.Salvage.{Taken, used, above, takeRecord, takeRecords, takeBlocks, taken}
+use Rattle.salvage.specs.Theorems.{From}
 use Rattle.salvage.proofs.Walk.{record-kept, record-left, records-none, records-more, block-used, block-left, blocks-none, used-few, length-more, getD-last}
 
 abbrev pub withKept : Taken → Record → Taken
@@ -23,9 +24,9 @@ withListed t x = record { kept = t .kept; listed = t .listed ++ (x ∷ []) }
 -- a property of what is taken before a place of the list: it is so at the first block, each record that is kept or left out takes it one place on, and so do the end of a block and a block that is not used
 module _ (image : List ℕ) (Q : ℕ → Taken → Type 0) (start : Q 8 (record { kept = []; listed = [] }))
     (keeps : (j i : ℕ) (t : Taken) → 1 ≤ j → j < wholeBlocks image → used image j ≡ true → i < countOf (imageBlock image j)
-        → goodAbove (leavesIn image) (above (t .kept)) (recordIn (imageBlock image j) i) ≡ true → Q (8 * j + i) t → Q (8 * j + i + 1) (withKept t (recordIn (imageBlock image j) i)))
+    → goodAbove (leavesIn image) (above (t .kept)) (recordIn (imageBlock image j) i) ≡ true → Q (8 * j + i) t → Q (8 * j + i + 1) (withKept t (recordIn (imageBlock image j) i)))
     (leaves : (j i : ℕ) (t : Taken) → 1 ≤ j → j < wholeBlocks image → used image j ≡ true → i < countOf (imageBlock image j)
-        → goodAbove (leavesIn image) (above (t .kept)) (recordIn (imageBlock image j) i) ≡ false → Q (8 * j + i) t → Q (8 * j + i + 1) (withListed t (8 * j + i)))
+    → goodAbove (leavesIn image) (above (t .kept)) (recordIn (imageBlock image j) i) ≡ false → Q (8 * j + i) t → Q (8 * j + i + 1) (withListed t (8 * j + i)))
     (ends : (j : ℕ) (t : Taken) → 1 ≤ j → j < wholeBlocks image → used image j ≡ true → Q (8 * j + countOf (imageBlock image j)) t → Q (8 * j + 8) t)
     (passes : (j : ℕ) (t : Taken) → 1 ≤ j → j < wholeBlocks image → used image j ≡ false → Q (8 * j) t → Q (8 * j + 8) (withListed t (8 * j + 7))) where
   module _ (j : ℕ) (one : 1 ≤ j) (inside : j < wholeBlocks image) (u : used image j ≡ true) (t : Taken) where
@@ -69,16 +70,7 @@ module _ (image : List ℕ) (Q : ℕ → Taken → Type 0) (start : Q 8 (record 
       subst (Q (8 * suc j + 8)) (sym (block-left n (suc j) b t (used image (suc j)) u)) (passes (suc j) t (omega arith) l u q))
       (true-or-false (used image (suc j))))
 
--- "Every leaf in the output is byte for byte one from a sound block": the block, and the record in it
-pub record From (image : List ℕ) (r : Record) : Type 0 where
-  pub place : ℕ
-  pub some : 1 ≤ place
-  pub inside : place < wholeBlocks image
-  pub sound : used image place ≡ true
-  pub slot : ℕ
-  pub few : slot < countOf (imageBlock image place)
-  pub same : r ≡ recordIn (imageBlock image place) slot
-
+-- each record kept is one of a sound block
 abbrev AllFrom : List ℕ → List Record → Type 0
 AllFrom image rs = (p : ℕ) → p < length rs → From image (getD rs p none)
 

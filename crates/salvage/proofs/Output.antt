@@ -1,5 +1,5 @@
 -- The records of a list put one after the other into an output that has room, each block closed when it is full and the last one at the end, make the record blocks of the list; entries put one after the other make the list in front.
-use mathlib.Core.Path.{_≡_, refl, ap, sym, _∙_}
+use mathlib.Core.Path.{_≡_, ap, sym, _∙_}
 use mathlib.Core.List.{List, [], _∷_, _++_}
 use mathlib.Core.Logic.{⊎-elim}
 use Prim.Native.Nat.{ℕ, zero, suc, _+_, _*_, _/_, _%_, _-_, _≤_, _<_}
@@ -15,7 +15,7 @@ use Rattle.image.specs.Encode.{version2, Record, none, Sized, recordBytes, reco
 use Rattle.image.proofs.Sound.{fit-2}
 use Rattle.image.proofs.Records.{closed-records, records-none, records-more, length-records, length-head, length-block, length-blocks, next-few, next-full}
 use Rattle.writing.proofs.Blocks.{image-law}
-use Rattle.salvage.specs.Walk.{recordPlace, closedAt, withRecord, withRecords, lastClosed, withEntries}
+use Rattle.salvage.specs.Walk.{recordPlace, closedAt, withRecords, lastClosed, withEntries}
 use Rattle.salvage.proofs.Walk.{record-mid, record-full, last-full, last-part, entry-set, with-more, entries-more}
 
 -- a splice that covers another
@@ -143,7 +143,7 @@ entries-are l es h (suc k) g =
     let z : 0 + k ≡ k = omega arith in
     let lx : length X ≡ length l = length-splice l 0 (take k es) (simp length-take (omega arith)) in
     let e : k + 1 ≡ suc k = omega arith in
-    ap (λ (x : List ℕ). putW 1 x k (getD es k 0 ∷ [])) (entries-are l es h k (omega arith))
+    ap (withEntries l es) (sym e) ∙ entries-more l es k ∙ ap (λ (x : List ℕ). putW 1 x k (getD es k 0 ∷ [])) (entries-are l es h k (omega arith))
     ∙ sym (entry-set X k (getD es k 0) (omega arith)) ∙ ap (λ (x : ℕ). set X x (getD es k 0)) (sym z) ∙ splice-copy l 0 es k (omega arith) (omega arith)
     ∙ ap (λ (x : ℕ). splice l 0 (take x es)) e
 

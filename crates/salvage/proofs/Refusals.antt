@@ -1,24 +1,24 @@
 -- Laws of salvage's refusals: one for each way out, and what the call then answers and leaves.
 use mathlib.Core.Path.{_≡_, refl, ap, sym, _∙_}
-use mathlib.Core.List.{List, [], _∷_, _++_}
+use mathlib.Core.List.{List, []}
 use mathlib.Core.Bool.{Bool, true, false}
 use Prim.Native.Nat.{ℕ, _+_, _*_, _%_, _≤_, _<_}
 use native.Mathlib.Omega.{arith}
 use lib.ListN.{length}
 use lib.Dec.{eqb, ltb, leb}
-use borrow.Author.Tests.{eqb-true, ltb-true, le-leb, lt-leb}
+use borrow.Author.Tests.{eq-eqb, ne-eqb, eqb-true, ltb-true, le-leb, lt-leb}
 use Rattle.laws.specs.Choice.{pick, both}
 use Rattle.laws.specs.Bytes.{splice}
 use Rattle.laws.specs.Refusal.{refusal, unless}
 use Rattle.laws.proofs.Choice.{both-true, both-left, both-right, both-false-left, both-false-right}
-use Rattle.laws.proofs.Refusal.{Hold, refusal-0, refusal-hold, refusal-first, refusal-then, refusal-past, unless-0, unless-no}
+use Rattle.laws.proofs.Refusal.{Hold, refusal-0, refusal-hold, refusal-first, refusal-then, refusal-past, unless-0, unless-no, unless-by}
 use Rattle.sums.specs.Check.{checkRight}
 use Rattle.image.specs.Encode.{version2, blocksFor}
 use Rattle.image.specs.Test.{imageBlock, headSound, formOf, leavesIn, lengthRight}
 use Rattle.image.proofs.Sound.{fit-2}
 use Rattle.image.proofs.Records.{length-encode}
 use Rattle.salvage.specs.declared.Salvaged.{Salvaged}
-use Rattle.salvage.specs.Salvage.{taken, newImage, headTests, roomTests, salvageRefusal, Left, left, salvaging, listedNumber}
+use Rattle.salvage.specs.Salvage.{taken, newImage, headTests, roomTests, salvageRefusal, Left, left, salvaging, lengthOf, asLength, listedNumber}
 use Rattle.salvage.proofs.Kept.{kept-sized}
 
 abbrev pub refusedWith : ℕ → Salvaged
@@ -93,7 +93,7 @@ module _ (image : List ℕ) where
   unfolding listedNumber
   listed-is e = sym (unless-0 (length (taken image .listed)) (λ d. 4294967296 + d) e)
 
-  -- the head's refusal is small
+  -- no refusal is above 11
   pub refusal-small : refusal (headTests image) ≤ 11
   unfolding refusal
   refusal-small = small (both (lengthRight image) (checkRight (formOf image .modulus) (imageBlock image 0))) (headSound (formOf image) (imageBlock image 0))
@@ -102,3 +102,31 @@ module _ (image : List ℕ) where
       small true true = omega arith
       small true false = omega arith
       small false b = omega arith
+
+  small-answer : (output list : List ℕ) → salvageRefusal image (length output) (length list) ≤ 11
+  unfolding refusal salvageRefusal
+  small-answer output list =
+      small (both (lengthRight image) (checkRight (formOf image .modulus) (imageBlock image 0))) (headSound (formOf image) (imageBlock image 0))
+      (both (leb (length (newImage image)) (length output)) (leb (length (taken image .listed)) (length list)))
+    where
+      small : (a b c : Bool) → pick {A = ℕ} a (pick {A = ℕ} b (pick {A = ℕ} c 0 9) 11) 10 ≤ 11
+      small true true true = omega arith
+      small true true false = omega arith
+      small true false c = omega arith
+      small false b c = omega arith
+
+  pub answer-small : (output list : List ℕ) → salvaging image output list .answer .refusal ≤ 11
+  unfolding salvaging
+  answer-small output list =
+      unless-by (left (accepted output list) (splice output 0 (newImage image)) (splice list 0 (taken image .listed))) (λ d. left (refusedWith d) output list)
+      (λ (s : Left). s .answer .refusal ≤ 11) (λ z. omega arith) (λ h. small-answer output list)
+
+-- an answer as one number
+module _ (s : Left) where
+  pub length-no : (s .answer .refusal ≡ 0 → ⊥) → lengthOf (4294967296 + s .answer .refusal) (s .output) (s .list) ≡ asLength s
+  unfolding asLength
+  length-no h = rw (ne-eqb (s .answer .refusal) 0 h)
+
+  pub length-is : s .answer .refusal ≡ 0 → lengthOf (s .answer .length) (s .output) (s .list) ≡ asLength s
+  unfolding asLength
+  length-is h = rw (eq-eqb (s .answer .refusal) 0 h)

@@ -80,9 +80,17 @@ salvaging image output list =
     (left (record { refusal = 0; length = length (newImage image); listed = length (taken image .listed) }) (splice output 0 (newImage image)) (splice list 0 (taken image .listed)))
     (λ c. left (record { refusal = c; length = 0; listed = 0 }) output list)
 
--- for C, as one number: the image's length, or 4,294,967,296 plus the refusal
-unfoldable pub lengthNumber : Salvaged → ℕ
-lengthNumber a = pick (eqb (a .refusal) 0) (a .length) (4294967296 + a .refusal)
+-- for C, the answer as one number: the image's length, or 4,294,967,296 plus the refusal
+pub record Lengthed : Type 0 where
+  pub number : ℕ
+  pub output : List ℕ
+  pub list : List ℕ
+
+abbrev pub lengthOf : ℕ → List ℕ → List ℕ → Lengthed
+lengthOf r o l = record { number = r; output = o; list = l }
+
+unfoldable pub asLength : Left → Lengthed
+asLength s = lengthOf (pick (eqb (s .answer .refusal) 0) (s .answer .length) (4294967296 + s .answer .refusal)) (s .output) (s .list)
 
 -- the number of entries, or 4,294,967,296 plus the refusal of the head
 unfoldable pub listedNumber : List ℕ → ℕ

@@ -12,7 +12,7 @@ ghost use Rattle.laws.specs.Refusal.{refusal};
 ghost use Rattle.sums.specs.Check.{checkRight, modulusFor};
 ghost use Rattle.image.specs.Encode.{blocksFor};
 ghost use Rattle.image.specs.Test.{countOf, blockSound, leavesIn};
-ghost use Rattle.salvage.specs.Salvage.{Taken, takeRecord, takeRecords, takeBlock, taken, newImage, headTests, left, salvaging, listedNumber};
+ghost use Rattle.salvage.specs.Salvage.{Taken, takeRecord, takeRecords, takeBlock, taken, newImage, headTests, left, salvaging, lengthOf, asLength, listedNumber};
 ghost use Rattle.salvage.specs.Walk.{closedAt, withRecord, lastClosed, At};
 
 const REFUSED: u64 = 4294967296;
@@ -288,6 +288,17 @@ pub fn salvage(image: &[u8], output: &mut [u8], list: &mut [u64]) -> Salvaged
         length: long as u64,
         listed: counted.listed as u64,
     }
+}
+
+// Salvage with its answer as one number: the new image's length, or REFUSED plus the refusal.
+pub fn salvage_length(image: &[u8], output: &mut [u8], list: &mut [u64]) -> u64
+    ensures { λ r. ⌜ lengthOf r (now (output .exit)) (now (list .exit)) ≡ asLength (salvaging (now (image .entry)) (now (output .entry)) (now (list .entry))) ⌝ }
+{
+    let salvaged = salvage(image, output, list);
+    if salvaged.refusal != 0 {
+        return REFUSED + salvaged.refusal;
+    }
+    salvaged.length
 }
 
 // The number of entries that a salvage of the image lists, or REFUSED plus the refusal of its head.

@@ -1,10 +1,9 @@
 -- `salvage::put_salvaged` meets its contract: the head, the walk over the blocks, and the last block closed.
-use mathlib.Core.Path.{_≡_, ap, sym, _∙_}
+use mathlib.Core.Path.{ap, _∙_}
 use mathlib.Core.List.{List}
 use Prim.Native.Nat.{ℕ}
 use native.Mathlib.Omega.{arith}
 use lib.ListN.{length}
-use Rattle.laws.specs.Bytes.{splice}
 use Rattle.laws.proofs.Put.{part-is, length-part, splice-is}
 use Rattle.image.specs.Encode.{version2, Record, headOf}
 use Rattle.image.specs.Test.{leavesIn}
@@ -52,11 +51,12 @@ returns c = let a = c .before .before .before .before .before .before .before .b
     let A = c .before .before .before .before .before .before .before .before .take-blocks .ensures .1 in
     let e = c .before .before .before .before .before .before .before .before .before .before .before .before .before .before .leaves-in .ensures in
     let H = splice-is o 0 512 {y = c .before .before .before .before .before .before .before .before .before .before .before .before .before .put-head .last .0} {b = headOf version2 (leavesIn m) (a .kept)} (omega arith)
-        (c .before .before .before .before .before .before .before .before .before .before .before .before .before .put-head .ensures ∙ headed-is version2 _ (c .before .before .before .before .before .before .before .before .before .before .before .before .before .before .leaves-in .result) (a .kept) (ap length (part-is o 0 512) ∙ length-part o 0 512 (omega arith)) ∙ ap (λ (x : ℕ). headOf version2 x (a .kept)) e)
-        (c .before .before .before .before .before .before .before .before .before .before .before .before .before .put-head .kept .0) in
-    (c .before .before .close-last .ensures ∙ (λ i. lastClosed (A .output-is i) (A .kept-is i)) ∙ ap (λ (x : List ℕ). lastClosed (withRecords x rs (length rs)) (length rs)) H
-    ∙ new-image o rs (leavesIn m) (a .kept) (kept-sized m (search needs) (search needs)) (search needs) (search needs),
-    A .list-is ∙ all-entries (a .list .now) (taken m .listed) (search needs))
+    (c .before .before .before .before .before .before .before .before .before .before .before .before .before .put-head .ensures ∙ headed-is version2 _ (c .before .before .before .before .before .before .before .before .before .before .before .before .before .before .leaves-in .result) (a .kept) (ap length (part-is o 0 512) ∙ length-part o 0 512 (omega arith)) ∙ ap (λ (x : ℕ). headOf version2 x (a .kept)) e)
+    (c .before .before .before .before .before .before .before .before .before .before .before .before .before .put-head .kept .0) in (
+      c .before .before .close-last .ensures ∙ (λ i. lastClosed (A .output-is i) (A .kept-is i)) ∙ ap (λ (x : List ℕ). lastClosed (withRecords x rs (length rs)) (length rs)) H
+          ∙ new-image o rs (leavesIn m) (a .kept) (kept-sized m (search needs) (search needs)) (search needs) (search needs),
+      A .list-is ∙ all-entries (a .list .now) (taken m .listed) (search needs),
+    )
 
 pub put-salvaged-spec : {M : Type 1} → statement M
 put-salvaged-spec =

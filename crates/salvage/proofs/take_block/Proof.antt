@@ -1,9 +1,8 @@
 -- `salvage::take_block` meets its contract, by a law for a block that is used and one for a block that is not.
-use mathlib.Core.Path.{_≡_, ap, _∙_}
-use Prim.Native.Nat.{ℕ, _+_, _*_}
+use mathlib.Core.Path.{_≡_}
+use Prim.Native.Nat.{_+_, _*_}
 use native.Mathlib.Omega.{arith}
 use Rattle.image.specs.Test.{countOf}
-use Rattle.salvage.specs.Salvage.{takeRecords}
 use Rattle.salvage.proofs.Walk.{block-used, block-left, at-entry}
 use borrow.Author.Needs.{needs}
 use Rattle.salvage.proofs.take_block.Statement.{statement}

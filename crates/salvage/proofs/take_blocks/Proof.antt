@@ -1,13 +1,12 @@
 -- `salvage::take_blocks` meets its contract: the blocks before block j are taken.
 use mathlib.Core.Path.{_≡_, refl, ap, sym, _∙_}
-use mathlib.Core.List.{List}
-use Prim.Native.Nat.{ℕ, _+_, _*_, _-_, _/_, _≤_, _<_}
+use Prim.Native.Nat.{_*_, _-_, _≤_}
 use native.Mathlib.Omega.{arith}
 use lib.ListN.{length}
 use borrow.Author.Needs.{needs}
 use Rattle.laws.proofs.Put.{part-is, length-part}
-use Rattle.image.specs.Test.{wholeBlocks, imageBlock, countOf, leavesIn}
-use Rattle.salvage.specs.Salvage.{Taken, takeBlocks, used}
+use Rattle.image.specs.Test.{wholeBlocks}
+use Rattle.salvage.specs.Salvage.{takeBlocks, used}
 use Rattle.salvage.specs.Walk.{At}
 use Rattle.salvage.proofs.Walk.{at-start, blocks-none, blocks-more, used-is, used-few}
 use Rattle.salvage.proofs.take_blocks.Statement.{statement}
@@ -67,10 +66,15 @@ part-take-block-end c = search needs
 take-block-requires : tie.Need-take-block-requires Inv-loop μ-loop
 take-block-requires c κs = let m = c .before .before .before .before .before .before .before .before .before .before .before .before .args .image .now in
     let L = c .before .before .before .before .before .before .loop in
-    let v = L .inv in
-    (ap length (part-is m (512 * L .j) 512) ∙ length-part m (512 * L .j) 512 (omega arith),
-    (λ s. rw (part-is m (512 * L .j) 512) (used-few m (L .j) (sym (used-is m (L .j) (c .before .before .before .before .before .before .before .before .version-in .ensures) (c .before .before .before .used .ensures)) ∙ s))),
-    omega (arith, v .0), omega arith, v .4, v .5, v .6)
+    let v = L .inv in (
+      ap length (part-is m (512 * L .j) 512) ∙ length-part m (512 * L .j) 512 (omega arith),
+      (λ s. rw (part-is m (512 * L .j) 512) (used-few m (L .j) (sym (used-is m (L .j) (c .before .before .before .before .before .before .before .before .version-in .ensures) (c .before .before .before .used .ensures)) ∙ s))),
+      omega (arith, v .0),
+      omega arith,
+      v .4,
+      v .5,
+      v .6,
+    )
 
 add-j : tie.Need-add-j Inv-loop μ-loop
 add-j c = search needs

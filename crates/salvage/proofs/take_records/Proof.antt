@@ -35,9 +35,15 @@ loop-less c = search needs
 loop-again : tie.Need-loop-again Inv-loop μ-loop
 loop-again c = let a = c .before .before .before .before .before .before .before .before .before .before .before .before .args in
     let L = c .before .before .before .before .before .before .before .before .loop in
-    let r = c .before .before .before .before .take-record in
-    (omega arith, search needs, search needs, r .ensures .0, r .ensures .1, omega (arith, L .inv .5, r .ensures .2),
-    λ o l t h. rw (records-more (a .n) (a .j) (a .block .now) t (L .i)) (r .ensures .3 o l (takeRecords (a .n) (a .j) (a .block .now) t (L .i)) (L .inv .6 o l t h)))
+    let r = c .before .before .before .before .take-record in (
+      omega arith,
+      search needs,
+      search needs,
+      r .ensures .0,
+      r .ensures .1,
+      omega (arith, L .inv .5, r .ensures .2),
+      λ o l t h. rw (records-more (a .n) (a .j) (a .block .now) t (L .i)) (r .ensures .3 o l (takeRecords (a .n) (a .j) (a .block .now) t (L .i)) (L .inv .6 o l t h)),
+    )
 
 same-length : tie.Need-same-length Inv-loop μ-loop
 same-length c = search needs
