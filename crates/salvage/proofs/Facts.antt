@@ -29,9 +29,19 @@ pub zeros-listed : taken (headOf version2 4 0 ++ replicate 512 0) ≡ record { k
 unfolding version2 version1 formFor headOf bytes checkOf sumA sumB checkRight part fits value numberAt both used takeBlock takeBlocks countRight blockSound
 zeros-listed = refl
 
--- leaf 3 is kept; then leaf 1, which is not above it, an empty leaf, and leaf 4, which is not below n, are listed
+-- and neither is one of no records with a right check, the last as it is
+pub no-records-listed : taken (headOf version2 4 0 ++ block 1 0 []) ≡ record { kept = []; listed = 15 ∷ [] }
+unfolding version2 version1 formFor headOf bytes checkOf sumA sumB checkRight part fits value numberAt both no all allZero lowest goodAbove above blockWith used takeRecord takeRecords takeBlock takeBlocks countRight blockSound
+no-records-listed = refl
+
+-- one record is too few for a block that is not the last, and enough for the last
+pub short-listed : taken (headOf version2 4 0 ++ (block 1 1 (recordBytes (leafWith 1 7)) ++ block 2 1 (recordBytes (leafWith 2 7)))) ≡ record { kept = leafWith 2 7 ∷ []; listed = 15 ∷ [] }
+unfolding version2 version1 formFor headOf bytes checkOf sumA sumB checkRight part fits value numberAt both no all allZero lowest goodAbove above blockWith used takeRecord takeRecords takeBlock takeBlocks countRight blockSound
+short-listed = refl
+
+-- leaf 1 is kept; then leaf 1 again, which is not above it, leaf 2, which is empty, and leaf 4, which is not below n, are listed; leaf 3 is kept
 pub records-listed :
-    taken (headOf version2 4 0 ++ block 1 4 (recordBytes (leafWith 3 7) ++ (recordBytes (leafWith 1 7) ++ (recordBytes (leafWith 3 0) ++ recordBytes (leafWith 4 7)))))
-    ≡ record { kept = leafWith 3 7 ∷ []; listed = 9 ∷ 10 ∷ 11 ∷ [] }
+    taken (headOf version2 4 0 ++ block 1 5 (recordBytes (leafWith 1 7) ++ (recordBytes (leafWith 1 7) ++ (recordBytes (leafWith 2 0) ++ (recordBytes (leafWith 4 7) ++ recordBytes (leafWith 3 7))))))
+    ≡ record { kept = leafWith 1 7 ∷ leafWith 3 7 ∷ []; listed = 9 ∷ 10 ∷ 11 ∷ [] }
 unfolding version2 version1 formFor headOf bytes checkOf sumA sumB checkRight part fits value numberAt both no all allZero lowest goodAbove above blockWith used takeRecord takeRecords takeBlock takeBlocks countRight blockSound
 records-listed = refl
