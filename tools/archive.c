@@ -181,12 +181,12 @@ static int zero(const uint8_t *bytes, size_t count)
 
 static int check_right(uint32_t version, const uint8_t *block)
 {
-    uint32_t modulus = version == 1 ? 65535 : 65536, a = 1, b = 0;
+    uint64_t modulus = version == 1 ? 65535 : 65536, a = 1, b = 0;
     for (int i = 0; i < CHECK; i += 2) {
-        a = (a + number(block + i, 2)) % modulus;
-        b = (b + a) % modulus;
+        a += (uint32_t)(block[i] | block[i + 1] << 8);
+        b += a;
     }
-    return number(block + CHECK, 2) == a && number(block + CHECK + 2, 2) == b;
+    return number(block + CHECK, 2) == a % modulus && number(block + CHECK + 2, 2) == b % modulus;
 }
 
 /* The first rule of the head that is broken, m apart; NULL if none. */
