@@ -1,5 +1,5 @@
 -- What a salvage makes is accepted; a sound image of version 2 comes out unchanged, with an empty list; and salvaging again changes nothing.
-use mathlib.Core.Path.{_≡_, refl, ap, sym, _∙_}
+use mathlib.Core.Path.{_≡_, refl, ap, sym, _∙_, subst}
 use mathlib.Core.List.{List, [], _∷_, _++_}
 use mathlib.Core.Bool.{true}
 use mathlib.Core.Logic.{⊎-elim}
@@ -30,9 +30,10 @@ use Rattle.archive.proofs.Written.{good-same, leaves-are, recorded-are, record-
 use Rattle.archive.proofs.Encoded.{head-limits, few-blocks, count-next, is-encoding}
 use Rattle.archive.proofs.Versions.{new-encoding-version, new-encoding-accepted}
 use Rattle.salvage.specs.Salvage.{Taken, used, above, takeRecord, takeRecords, takeBlock, takeBlocks, taken, newImage, headTests, left, salvaging}
+use Rattle.salvage.specs.Theorems.{From}
 use Rattle.salvage.proofs.Walk.{length-more, getD-last, above-none, above-more, record-kept, records-none, records-more, block-used, blocks-none}
 use Rattle.salvage.proofs.Walk.{sound-head as head-not-refused}
-use Rattle.salvage.proofs.Kept.{taken-by, kept-sized}
+use Rattle.salvage.proofs.Kept.{taken-by, all-from, kept-sized}
 use Rattle.salvage.proofs.Refusals.{holds, some, whole, length-new, salvages}
 use Rattle.salvage.proofs.Told.{few-taken}
 
@@ -128,6 +129,12 @@ module _ (image : List ℕ) (e : refusal (headTests image) ≡ 0) where
       ext-getD none (recordsIn (newImage image)) rs (length-recordsTo (recordAt (newImage image)) (recordedIn (newImage image)) ∙ f)
       (λ p k. let h : p < recordedIn (newImage image) = omega (arith, length-recordsTo (recordAt (newImage image)) (recordedIn (newImage image))) in
       recordsTo-at (recordAt (newImage image)) (recordedIn (newImage image)) p h ∙ record-is version2 fit-2 n rs limits good few-kept p (omega arith))
+
+  -- "Every leaf in the output is byte for byte one from a sound block"
+  pub new-from : (p : ℕ) → p < length (recordsIn (newImage image)) → From image (getD (recordsIn (newImage image)) p none)
+  new-from p l =
+      subst (From image) (sym (ap (λ (x : List Record). getD x p none) new-records))
+      (all-from image (wholeBlocks image - 1) (omega (arith, some image e, whole image e)) p (omega (arith, ap length new-records)))
 
 -- the first p records of an accepted image, all kept
 above-to : (f : ℕ → Record) (p : ℕ) → above (recordsTo f p) ≡ lowest 0 f p
