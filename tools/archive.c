@@ -51,7 +51,7 @@ static char doing[512]; /* what is being done, in words */
 static volatile sig_atomic_t seconds;
 static char unfinished[4096]; /* the file that is being written, to be removed where the work ends early */
 static sigjmp_buf gone;
-static volatile sig_atomic_t reading;
+static volatile sig_atomic_t reading, written; /* a mapped file is read; NEW is there */
 
 static void say(const char *words)
 {
@@ -422,7 +422,11 @@ static int salvage(const char *old, const char *new, int replace)
     }
     if (sigsetjmp(gone, 1) != 0) {
         reading = 0;
-        return fails(old, "it ended while it was read");
+        if (!written)
+            return fails(old, "it ended while it was read");
+        fflush(stdout);
+        fprintf(stderr, "archive: %s: it ended while what is left out was said; %s is written\n", old, new);
+        return LEFT_OUT;
     }
     reading = 1;
     begin("salvaging", old);
@@ -452,6 +456,7 @@ static int salvage(const char *old, const char *new, int replace)
     end();
     if (why != NULL)
         return fails(new, why);
+    written = 1;
     begin("listing what is left out of", old);
     uint64_t kept = print_list(file.bytes, file.length / BLOCK, list, listed);
     end();

@@ -1,11 +1,11 @@
 // 02, E8 "Salvage a damaged image" for C: each is the library's call itself.
 ghost use mathlib.Core.Path.{_≡_};
-ghost use Rattle.salvage.specs.Salvage.{salvaging, lengthOf, asLength, listedNumber};
+ghost use Rattle.salvage.specs.Salvage.{salvaging, numbered, asNumber, listedNumber};
 
 // The new image and the list are written: the image's length, or 4,294,967,296 plus the refusal.
 #[no_mangle]
 pub extern "C" fn tag_salvage(image: &[u8], output: &mut [u8], list: &mut [u64]) -> u64
-    ensures { λ r. ⌜ lengthOf r (now (output .exit)) (now (list .exit)) ≡ asLength (salvaging (now (image .entry)) (now (output .entry)) (now (list .entry))) ⌝ }
+    ensures { λ r. ⌜ numbered r (now (output .exit)) (now (list .exit)) ≡ asNumber (salvaging (now (image .entry)) (now (output .entry)) (now (list .entry))) ⌝ }
 {
     salvage::salvage_length(image, output, list)
 }

@@ -4,7 +4,7 @@ use mathlib.Core.List.{List}
 use Prim.Native.Nat.{ℕ}
 use Rattle.geometry.proofs.One.{one}
 use Rattle.salvage.specs.declared.Salvaged.{Salvaged}
-use Rattle.salvage.specs.Salvage.{Left, left, salvaging, Lengthed, lengthOf, asLength, listedNumber}
+use Rattle.salvage.specs.Salvage.{Left, left, salvaging, Numbered, numbered, asNumber, listedNumber}
 
 pub salvage-one : (image output list : List ℕ) {a b : Salvaged} {o p l m : List ℕ}
     → left a o l ≡ salvaging image output list → left b p m ≡ salvaging image output list → (a ≡ b) × (o ≡ p) × (l ≡ m)
@@ -13,10 +13,10 @@ salvage-one image output list {a = a} {b = b} {o = o} {p = p} {l = l} {m = m} x 
     (ap (λ (t : Left). t .answer) e, ap (λ (t : Left). t .output) e, ap (λ (t : Left). t .list) e)
 
 pub salvage-length-one : (image output list : List ℕ) {r s : ℕ} {o p l m : List ℕ}
-    → lengthOf r o l ≡ asLength (salvaging image output list) → lengthOf s p m ≡ asLength (salvaging image output list) → (r ≡ s) × (o ≡ p) × (l ≡ m)
+    → numbered r o l ≡ asNumber (salvaging image output list) → numbered s p m ≡ asNumber (salvaging image output list) → (r ≡ s) × (o ≡ p) × (l ≡ m)
 salvage-length-one image output list {r = r} {s = s} {o = o} {p = p} {l = l} {m = m} x y =
-    let e : lengthOf r o l ≡ lengthOf s p m = one x y in
-    (ap (λ (t : Lengthed). t .number) e, ap (λ (t : Lengthed). t .output) e, ap (λ (t : Lengthed). t .list) e)
+    let e : numbered r o l ≡ numbered s p m = one x y in
+    (ap (λ (t : Numbered). t .number) e, ap (λ (t : Numbered). t .output) e, ap (λ (t : Numbered). t .list) e)
 
 pub salvage-listed-one : (image : List ℕ) {r s : ℕ} → r ≡ listedNumber image → s ≡ listedNumber image → r ≡ s
 salvage-listed-one image = one

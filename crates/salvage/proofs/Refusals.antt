@@ -18,7 +18,7 @@ use Rattle.image.specs.Test.{imageBlock, headSound, formOf, leavesIn, lengthRig
 use Rattle.image.proofs.Sound.{fit-2}
 use Rattle.image.proofs.Records.{length-encode}
 use Rattle.salvage.specs.declared.Salvaged.{Salvaged}
-use Rattle.salvage.specs.Salvage.{taken, newImage, headTests, roomTests, salvageRefusal, Left, left, salvaging, lengthOf, asLength, listedNumber}
+use Rattle.salvage.specs.Salvage.{taken, newImage, headTests, roomTests, salvageRefusal, Left, left, salvaging, numbered, asNumber, listedNumber}
 use Rattle.salvage.proofs.Kept.{kept-sized}
 
 abbrev pub refusedWith : ℕ → Salvaged
@@ -123,10 +123,10 @@ module _ (image : List ℕ) where
 
 -- an answer as one number
 module _ (s : Left) where
-  pub length-no : (s .answer .refusal ≡ 0 → ⊥) → lengthOf (4294967296 + s .answer .refusal) (s .output) (s .list) ≡ asLength s
-  unfolding asLength
+  pub length-no : (s .answer .refusal ≡ 0 → ⊥) → numbered (4294967296 + s .answer .refusal) (s .output) (s .list) ≡ asNumber s
+  unfolding asNumber
   length-no h = rw (ne-eqb (s .answer .refusal) 0 h)
 
-  pub length-is : s .answer .refusal ≡ 0 → lengthOf (s .answer .length) (s .output) (s .list) ≡ asLength s
-  unfolding asLength
+  pub length-is : s .answer .refusal ≡ 0 → numbered (s .answer .length) (s .output) (s .list) ≡ asNumber s
+  unfolding asNumber
   length-is h = rw (eq-eqb (s .answer .refusal) 0 h)

@@ -81,16 +81,16 @@ salvaging image output list =
     (λ c. left (record { refusal = c; length = 0; listed = 0 }) output list)
 
 -- for C, the answer as one number: the image's length, or 4,294,967,296 plus the refusal
-pub record Lengthed : Type 0 where
+pub record Numbered : Type 0 where
   pub number : ℕ
   pub output : List ℕ
   pub list : List ℕ
 
-abbrev pub lengthOf : ℕ → List ℕ → List ℕ → Lengthed
-lengthOf r o l = record { number = r; output = o; list = l }
+abbrev pub numbered : ℕ → List ℕ → List ℕ → Numbered
+numbered r o l = record { number = r; output = o; list = l }
 
-unfoldable pub asLength : Left → Lengthed
-asLength s = lengthOf (pick (eqb (s .answer .refusal) 0) (s .answer .length) (4294967296 + s .answer .refusal)) (s .output) (s .list)
+unfoldable pub asNumber : Left → Numbered
+asNumber s = numbered (pick (eqb (s .answer .refusal) 0) (s .answer .length) (4294967296 + s .answer .refusal)) (s .output) (s .list)
 
 -- the number of entries, or 4,294,967,296 plus the refusal of the head
 unfoldable pub listedNumber : List ℕ → ℕ

@@ -12,7 +12,7 @@ ghost use Rattle.laws.specs.Refusal.{refusal};
 ghost use Rattle.sums.specs.Check.{checkRight, modulusFor};
 ghost use Rattle.image.specs.Encode.{blocksFor};
 ghost use Rattle.image.specs.Test.{countOf, blockSound, leavesIn};
-ghost use Rattle.salvage.specs.Salvage.{Taken, takeRecord, takeRecords, takeBlock, taken, newImage, headTests, left, salvaging, lengthOf, asLength, listedNumber};
+ghost use Rattle.salvage.specs.Salvage.{Taken, takeRecord, takeRecords, takeBlock, taken, newImage, headTests, left, salvaging, numbered, asNumber, listedNumber};
 ghost use Rattle.salvage.specs.Walk.{closedAt, withRecord, lastClosed, At};
 
 const REFUSED: u64 = 4294967296;
@@ -84,7 +84,7 @@ fn put_listed(list: &mut [u64], at: usize, entry: u64)
     list[at] = entry;
 }
 
-// Record i of block j: into the new image where it is good above the ones kept, else onto the list.
+// Record i of block j, whose entries fit a number: into the new image where it is good above the ones kept, else onto the list.
 fn take_record(
     output: &mut [u8],
     list: &mut [u64],
@@ -94,7 +94,7 @@ fn take_record(
     i: usize,
     walk: Progress,
 ) -> Progress
-    requires { ⌜ (length (now block) ≡ 512) × (i < 7) × (j < 36028797018963968) × (walk .kept ≤ walk .low) × (walk .low ≤ n) × (walk .listed ≤ 8 * j) ⌝ }
+    requires { ⌜ (length (now block) ≡ 512) × (i < 7) × (8 * j + 8 < 18446744073709551616) × (walk .kept ≤ walk .low) × (walk .low ≤ n) × (walk .listed ≤ 8 * j) ⌝ }
     ensures { λ r. ⌜ (r .kept ≤ r .low) × (r .low ≤ n) × (r .listed ≤ walk .listed + 1) × ((o l : List ℕ) (t : Taken) → At o l t (walk .kept) (walk .low) (walk .listed) (now (output .entry)) (now (list .entry)) → At o l (takeRecord n j (now (block .entry)) t i) (r .kept) (r .low) (r .listed) (now (output .exit)) (now (list .exit))) ⌝ }
 {
     let kept = walk.kept;
@@ -129,7 +129,7 @@ fn take_records(
     count: usize,
     walk: Progress,
 ) -> Progress
-    requires { ⌜ (length (now block) ≡ 512) × (count ≤ 7) × (0 < j) × (j < 36028797018963968) × (walk .kept ≤ walk .low) × (walk .low ≤ n) × (walk .listed ≤ 7 * (j - 1)) ⌝ }
+    requires { ⌜ (length (now block) ≡ 512) × (count ≤ 7) × (0 < j) × (8 * j + 8 < 18446744073709551616) × (walk .kept ≤ walk .low) × (walk .low ≤ n) × (walk .listed ≤ 7 * (j - 1)) ⌝ }
     ensures { λ r. ⌜ (r .kept ≤ r .low) × (r .low ≤ n) × (r .listed ≤ 7 * j) × ((o l : List ℕ) (t : Taken) → At o l t (walk .kept) (walk .low) (walk .listed) (now (output .entry)) (now (list .entry)) → At o l (takeRecords n j (now (block .entry)) t count) (r .kept) (r .low) (r .listed) (now (output .exit)) (now (list .exit))) ⌝ }
 {
     let mut so_far = walk;
@@ -161,7 +161,7 @@ fn take_block(
     block: &[u8],
     walk: Progress,
 ) -> Progress
-    requires { ⌜ (length (now block) ≡ 512) × (sound ≡ true → countOf (now block) ≤ 7) × (0 < j) × (j < 36028797018963968) × (walk .kept ≤ walk .low) × (walk .low ≤ n) × (walk .listed ≤ 7 * (j - 1)) ⌝ }
+    requires { ⌜ (length (now block) ≡ 512) × (sound ≡ true → countOf (now block) ≤ 7) × (0 < j) × (8 * j + 8 < 18446744073709551616) × (walk .kept ≤ walk .low) × (walk .low ≤ n) × (walk .listed ≤ 7 * (j - 1)) ⌝ }
     ensures { λ r. ⌜ (r .kept ≤ r .low) × (r .low ≤ n) × (r .listed ≤ 7 * j) × ((o l : List ℕ) (t : Taken) → At o l t (walk .kept) (walk .low) (walk .listed) (now (output .entry)) (now (list .entry)) → At o l (takeBlock n j sound (now (block .entry)) t) (r .kept) (r .low) (r .listed) (now (output .exit)) (now (list .exit))) ⌝ }
 {
     if sound {
@@ -292,7 +292,7 @@ pub fn salvage(image: &[u8], output: &mut [u8], list: &mut [u64]) -> Salvaged
 
 // Salvage with its answer as one number: the new image's length, or REFUSED plus the refusal.
 pub fn salvage_length(image: &[u8], output: &mut [u8], list: &mut [u64]) -> u64
-    ensures { λ r. ⌜ lengthOf r (now (output .exit)) (now (list .exit)) ≡ asLength (salvaging (now (image .entry)) (now (output .entry)) (now (list .entry))) ⌝ }
+    ensures { λ r. ⌜ numbered r (now (output .exit)) (now (list .exit)) ≡ asNumber (salvaging (now (image .entry)) (now (output .entry)) (now (list .entry))) ⌝ }
 {
     let salvaged = salvage(image, output, list);
     if salvaged.refusal != 0 {

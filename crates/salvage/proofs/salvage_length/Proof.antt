@@ -1,7 +1,7 @@
 -- `salvage::salvage_length` meets its contract: the salvage, and its answer as one number.
 use mathlib.Core.Path.{ap, _∙_}
 use native.Mathlib.Omega.{arith}
-use Rattle.salvage.specs.Salvage.{Left, asLength}
+use Rattle.salvage.specs.Salvage.{Left, asNumber}
 use Rattle.salvage.proofs.Refusals.{answer-small, length-no, length-is}
 use borrow.Author.Needs.{needs}
 use Rattle.salvage.proofs.salvage_length.Statement.{statement}
@@ -22,7 +22,7 @@ same-length-2 : tie.Need-same-length-2
 same-length-2 c = search needs
 
 returns : tie.Need-returns
-returns c = length-no _ (c .before .if1 .taken) ∙ ap asLength (c .before .before .before .before .before .before .before .salvage .ensures)
+returns c = length-no _ (c .before .if1 .taken) ∙ ap asNumber (c .before .before .before .before .before .before .before .salvage .ensures)
 
 same-length-3 : tie.Need-same-length-3
 same-length-3 c = search needs
@@ -31,7 +31,7 @@ same-length-4 : tie.Need-same-length-4
 same-length-4 c = search needs
 
 returns-2 : tie.Need-returns-2
-returns-2 c = length-is _ (c .if1 .left) ∙ ap asLength (c .before .before .before .before .before .before .salvage .ensures)
+returns-2 c = length-is _ (c .if1 .left) ∙ ap asNumber (c .before .before .before .before .before .before .salvage .ensures)
 
 pub salvage-length-spec : {M : Type 1} → statement M
 salvage-length-spec =
