@@ -147,6 +147,34 @@ uint64_t tag_predict_write(uint64_t n, uint64_t c, uint8_t *tags, size_t tags_le
 uint64_t tag_predict_sync(uint64_t n, uint64_t c, const uint8_t *tags, size_t tags_length,
                           uint8_t *bits, size_t bits_length, uint64_t r);
 
+/* Salvage of a damaged archive image: a new sound image of version 2 from what is sound,
+ * and a list of what was left out.
+ *
+ * The head, block 0, must be sound; only its m, the number of records, may be anything. A
+ * later block is used where its check by the head's version, its number (its place), kind,
+ * count (7, in the image's last block 1 to 7) and unused bytes are right. Of its records,
+ * in order, each that is not empty and has a leaf number below n and above the last one
+ * kept is kept.
+ *
+ * The list has, in input order and rising, 8 * place + 7 for each block that is not used
+ * and 8 * place + i for each record i, 0 to 6, of a used block that is not kept.
+ */
+
+/* Writes the new image in front of output and the list in front of list, which lends
+ * list_length numbers, and gives the image's length; what lies past the image and past the
+ * list stays. An output as long as the image always has room. Refused, the first that applies:
+ *   TAG_MODEL_REFUSED + 10   image_length is 0 or not a multiple of 512, or the head's
+ *                            check is wrong
+ *   TAG_MODEL_REFUSED + 11   another rule of the head is broken
+ *   TAG_MODEL_REFUSED + 9    the output or the list is too short
+ */
+uint64_t tag_salvage(const uint8_t *image, size_t image_length, uint8_t *output, size_t output_length,
+                     uint64_t *list, size_t list_length);
+
+/* The number of entries that tag_salvage lists for this image; below TAG_MODEL_REFUSED
+ * for an image of less than 300 GB. Or TAG_MODEL_REFUSED plus 10 or 11, as there. */
+uint64_t tag_salvage_listed(const uint8_t *image, size_t image_length);
+
 #ifdef __cplusplus
 }
 #endif

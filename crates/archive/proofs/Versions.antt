@@ -36,6 +36,16 @@ old-encoding-accepted n rs h G few =
     ap (λ (F : Form). testBy F (encode version1 n rs)) (ap formFor (version-is version1 fit-1 n rs h G few) ∙ own-1)
     ∙ encoding-accepted version1 fit-1 n rs h G few
 
+-- and so are they as they are written now, with version word 2
+pub new-encoding-version : (n : ℕ) (rs : List Record) → inLimits n ≡ true → Good n rs → length rs ≤ n → versionIn (encode version2 n rs) ≡ 2
+unfolding version2
+new-encoding-version n rs h G few = version-is version2 fit-2 n rs h G few
+
+pub new-encoding-accepted : (n : ℕ) (rs : List Record) → inLimits n ≡ true → Good n rs → length rs ≤ n → imageTest (encode version2 n rs) ≡ 0
+new-encoding-accepted n rs h G few =
+    ap (λ (F : Form). testBy F (encode version2 n rs)) (ap formFor (version-is version2 fit-2 n rs h G few) ∙ own-2)
+    ∙ encoding-accepted version2 fit-2 n rs h G few
+
 -- the image of a true memory
 module _ (n : ℕ) (mem : List ℕ) (h : inLimits n ≡ true) (l : length mem ≡ memoryLength n) (t : isTrue n mem ≡ true) where
   version-of : (F : Form) → Fit F → versionIn (encode F n (recordsOf n mem)) ≡ F .version

@@ -3,3 +3,4 @@ mod archive_calls;
 mod cache_calls;
 mod memory_calls;
 mod predict;
+mod salvaging;

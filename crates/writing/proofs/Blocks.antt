@@ -13,7 +13,7 @@ use Rattle.laws.proofs.Value.{length-bytes}
 use Rattle.sums.specs.Check.{checkOf, withCheck}
 use Rattle.laws.proofs.Writes.{splice-none, splice-then, take-splice}
 use Rattle.sums.proofs.Right.{sealed}
-use Rattle.image.specs.Encode.{Form, version2, Record, none, Sized, recordBytes, recordsBytes, headFront, headRest, headOf, headed, blockFront, blockWith, closed, blockOf, next7, recordBlocks, blocksFor, encode, recordOf, recordsBelow, recordsOf, imageOf}
+use Rattle.image.specs.Encode.{Form, version2, Record, none, Sized, recordBytes, recordsBytes, headFront, headRest, headOf, headed, blockFront, blockWith, closed, blockOf, next7, recordBlocks, blocksFor, encode, recordOf, recordsBelow, recordsOf}
 use Rattle.memory.specs.PlainReading.{leafBit}
 use Rattle.memory.specs.True.{blockAt}
 use Rattle.image.proofs.Sound.{fit-2}
@@ -170,13 +170,12 @@ module _ (o mem : List ℕ) (n m : ℕ) (out : List ℕ) (j k : ℕ) (P : Progre
       }
 
 -- the head and the blocks after it
-pub image-law : (o mem : List ℕ) (n m : ℕ) → m ≡ length (recordsOf n mem) → 64 * n ≤ length mem → 512 * (1 + blocksFor m) ≤ length o
-    → splice (splice o 0 (headOf version2 n m)) 512 (recordBlocks 65536 (recordsOf n mem) (blocksFor m)) ≡ splice o 0 (imageOf n mem)
+pub image-law : (o : List ℕ) (rs : List Record) (n m : ℕ) → m ≡ length rs → Sized rs → 512 * (1 + blocksFor m) ≤ length o
+    → splice (splice o 0 (headOf version2 n m)) 512 (recordBlocks 65536 rs (blocksFor m)) ≡ splice o 0 (encode version2 n rs)
 unfolding encode version2
-image-law o mem n m e long big =
-    let rs : List Record = recordsOf n mem in
+image-law o rs n m e s big =
     let lh : length (headOf version2 n m) ≡ 512 = length-head version2 n m (fit-2 .room) in
-    let lb : length (recordBlocks 65536 rs (blocksFor m)) ≡ 512 * blocksFor m = length-blocks 65536 rs (records-sized n mem long) (blocksFor m) (omega arith) in
+    let lb : length (recordBlocks 65536 rs (blocksFor m)) ≡ 512 * blocksFor m = length-blocks 65536 rs s (blocksFor m) (omega arith) in
     splice-then o 0 (headOf version2 n m) (recordBlocks 65536 rs (blocksFor m)) 512 (omega arith) (omega arith)
     ∙ ap (λ (x : ℕ). splice o 0 (headOf version2 n x ++ recordBlocks 65536 rs (blocksFor x))) e
 

@@ -3,8 +3,8 @@ use native.Mathlib.Omega.{arith}
 use mathlib.Core.Path.{ap, _∙_}
 use lib.ListN.{length}
 use Rattle.laws.proofs.Put.{part-is, length-part, splice-is}
-use Rattle.image.specs.Encode.{version2, headOf}
-use Rattle.image.proofs.Records.{headed-is}
+use Rattle.image.specs.Encode.{version2, headOf, recordsOf}
+use Rattle.image.proofs.Records.{headed-is, records-sized}
 use Rattle.writing.proofs.Blocks.{image-law}
 use borrow.Author.Needs.{needs}
 use Rattle.writing.proofs.put_image.Statement.{statement}
@@ -35,7 +35,7 @@ returns c = let s = c .before .before .before .before .before .before .before .b
       splice-is (a .output .now) 0 512 {y = c .before .before .before .before .before .before .put-head .last .0} {b = headOf version2 (a .n) (a .m)} (omega arith)
           (c .before .before .before .before .before .before .put-head .ensures ∙ headed-is version2 _ (a .n) (a .m) (ap length (part-is (a .output .now) 0 512) ∙ length-part (a .output .now) 0 512 (omega arith)))
           (c .before .before .before .before .before .before .put-head .kept .0),
-      image-law (a .output .now) (a .memory .now) (a .n) (a .m) (search needs) (search needs) (search needs),
+      image-law (a .output .now) (recordsOf (a .n) (a .memory .now)) (a .n) (a .m) (search needs) (records-sized (a .n) (a .memory .now) (search needs)) (search needs),
     )
 
 pub put-image-spec : {M : Type 1} → statement M

@@ -1,0 +1,248 @@
+-- Laws of the walk: one for each way that a record, a block and the head can go, and what each does to what the walk has.
+use mathlib.Core.Path.{_≡_, refl, ap, sym, _∙_}
+use mathlib.Core.List.{List, [], _∷_, _++_}
+use mathlib.Core.Bool.{Bool, true, false}
+use Prim.Native.Nat.{ℕ, zero, suc, _+_, _*_, _/_, _%_, _-_, _≤_, _<_}
+use native.Mathlib.Numerals.{add-one}
+use native.Mathlib.Omega.{arith}
+use lib.ListN.{length, take, drop, getD, set, length-append, List·getD-append}
+use lib.Seq.{getD-at}
+use lib.Dec.{eqb, ltb, leb}
+use borrow.Author.Tests.{eq-eqb, ne-eqb, lt-ltb, le-ltb, ltb-true, leb-true}
+use Rattle.laws.specs.Choice.{both, no}
+use Rattle.laws.specs.Bytes.{part, putW, bytes, numberAt}
+use Rattle.laws.specs.Refusal.{refusal}
+use Rattle.laws.proofs.Choice.{both-true, both-left, both-right, both-false-left, both-false-right}
+use Rattle.laws.proofs.Refusal.{refusal-0, refusal-first}
+use Rattle.laws.proofs.Put.{part-is, putW-fits}
+use Rattle.laws.proofs.Value.{splice-sets}
+use Rattle.block.specs.Block.{allZero, blockOr0}
+use Rattle.block.proofs.Blocks.{blockOr0-fits}
+use Rattle.sums.specs.Check.{checkRight, modulusFor}
+use Rattle.image.specs.Encode.{Record, none, recordBytes}
+use Rattle.image.specs.Test.{wholeBlocks, imageBlock, countOf, recordIn, headSound, blockSound, leavesIn, goodAbove, formOf, versionIn, lengthRight, lowest, recordGood}
+use Rattle.image.proofs.Sound.{form-modulus, count-bounds, sound-count}
+use Rattle.image.proofs.Rules.{good-by, record-by, lowest-none, lowest-more}
+use Rattle.salvage.specs.Salvage.{Taken, used, above, takeRecord, takeRecords, takeBlock, takeBlocks, headTests}
+use Rattle.salvage.specs.Walk.{recordPlace, closedAt, withRecord, withRecords, lastClosed, withEntries, At}
+
+-- a record of the new image, its last block, an entry of the list
+module _ (o : List ℕ) (p : ℕ) where
+  pub record-mid : (b : List ℕ) → (p % 7 ≡ 6 → ⊥) → withRecord o p b ≡ putW 68 o (recordPlace p) b
+  unfolding withRecord
+  record-mid b h = rw (ne-eqb (p % 7) 6 h)
+
+  pub record-full : (b : List ℕ) → p % 7 ≡ 6 → withRecord o p b ≡ closedAt (putW 68 o (recordPlace p) b) (1 + p / 7) 7
+  unfolding withRecord
+  record-full b h = rw (eq-eqb (p % 7) 6 h)
+
+  pub last-full : p % 7 ≡ 0 → lastClosed o p ≡ o
+  unfolding lastClosed
+  last-full h = rw (eq-eqb (p % 7) 0 h)
+
+  pub last-part : (p % 7 ≡ 0 → ⊥) → lastClosed o p ≡ closedAt o (1 + p / 7) (p % 7)
+  unfolding lastClosed
+  last-part h = rw (ne-eqb (p % 7) 0 h)
+
+pub entry-set : (l : List ℕ) (at x : ℕ) → at < length l → set l at x ≡ putW 1 l at (x ∷ [])
+entry-set l at x h = splice-sets (x ∷ []) l at (omega arith) ∙ sym (putW-fits 1 l at (x ∷ []) (omega arith))
+
+-- the check of block j by the head's version, of the block that is lent
+pub check-is : (image : List ℕ) (j : ℕ) {v : ℕ} {r : Bool} → v ≡ versionIn image → r ≡ checkRight (modulusFor v) (take (512 * j + 512 - 512 * j) (drop (512 * j) image))
+    → checkRight (formOf image .modulus) (imageBlock image j) ≡ r
+check-is image j e h =
+    ap (λ (x : ℕ). checkRight x (imageBlock image j)) (form-modulus (versionIn image) ∙ ap modulusFor (sym e)) ∙ ap (checkRight (modulusFor _)) (sym (part-is image (512 * j) 512)) ∙ sym h
+
+-- the refusals of the head
+module _ (image : List ℕ) where
+  abbrev check : Bool
+  check = checkRight (formOf image .modulus) (imageBlock image 0)
+
+  abbrev sound : Bool
+  sound = headSound (formOf image) (imageBlock image 0)
+
+  bad-10 : both (lengthRight image) check ≡ false → refusal (headTests image) ≡ 10
+  bad-10 h = refusal-first [] (both (lengthRight image) check) 10 ((sound, 11) ∷ []) tt h
+
+  pub no-length : length image ≡ 0 → refusal (headTests image) ≡ 10
+  unfolding lengthRight
+  no-length h = bad-10 (both-false-left _ _ (both-false-left _ _ (le-ltb 0 (length image) (omega arith))))
+
+  pub part-block : (length image % 512 ≡ 0 → ⊥) → refusal (headTests image) ≡ 10
+  unfolding lengthRight
+  part-block h = bad-10 (both-false-left _ _ (both-false-right _ _ (ne-eqb (length image % 512) 0 h)))
+
+  pub wrong-check : check ≡ false → refusal (headTests image) ≡ 10
+  wrong-check h = bad-10 (both-false-right _ _ h)
+
+  module _ (some : 0 < length image) (whole : length image % 512 ≡ 0) (right : check ≡ true) where
+    good-10 : both (lengthRight image) check ≡ true
+    unfolding lengthRight
+    good-10 = both-true _ _ (both-true _ _ (lt-ltb 0 (length image) some) (eq-eqb (length image % 512) 0 whole)) right
+
+    pub broken-head : sound ≡ false → refusal (headTests image) ≡ 11
+    broken-head h = refusal-first ((both (lengthRight image) check, 10) ∷ []) sound 11 [] (good-10, tt) h
+
+    pub sound-head : sound ≡ true → refusal (headTests image) ≡ 0
+    sound-head h = refusal-0 (headTests image) (good-10, (h, tt))
+
+-- a record that is kept, and one that is left out
+module _ (n j : ℕ) (b : List ℕ) (t : Taken) (i : ℕ) where
+  pub record-kept : goodAbove n (above (t .kept)) (recordIn b i) ≡ true
+      → takeRecord n j b t i ≡ record { kept = t .kept ++ (recordIn b i ∷ []); listed = t .listed }
+  unfolding takeRecord
+  record-kept h = rw h
+
+  pub record-left : goodAbove n (above (t .kept)) (recordIn b i) ≡ false
+      → takeRecord n j b t i ≡ record { kept = t .kept; listed = t .listed ++ ((8 * j + i) ∷ []) }
+  unfolding takeRecord
+  record-left h = rw h
+
+module _ (n j : ℕ) (b : List ℕ) (t : Taken) where
+  pub records-none : takeRecords n j b t 0 ≡ t
+  unfolding takeRecords
+  records-none = refl
+
+  pub records-more : (i : ℕ) → takeRecords n j b t (i + 1) ≡ takeRecord n j b (takeRecords n j b t i) i
+  unfolding takeRecords
+  records-more i = rw (add-one i)
+
+  pub block-used : (sound : Bool) → sound ≡ true → takeBlock n j sound b t ≡ takeRecords n j b t (countOf b)
+  unfolding takeBlock
+  block-used sound h = rw h
+
+  pub block-left : (sound : Bool) → sound ≡ false → takeBlock n j sound b t ≡ record { kept = t .kept; listed = t .listed ++ ((8 * j + 7) ∷ []) }
+  unfolding takeBlock
+  block-left sound h = rw h
+
+-- one element more at the end
+module _ {A : Type 0} (xs : List A) (x : A) where
+  pub length-more : length (xs ++ (x ∷ [])) ≡ length xs + 1
+  length-more = length-append xs (x ∷ [])
+
+  pub getD-last : (d : A) → getD (xs ++ (x ∷ [])) (length xs) d ≡ x
+  getD-last d = getD-at xs x [] d (length xs) refl
+
+pub above-none : above [] ≡ 0
+unfolding above
+above-none = lowest-none 0 (λ p. getD [] p none)
+
+pub above-more : (rs : List Record) (r : Record) → above (rs ++ (r ∷ [])) ≡ r .leaf + 1
+unfolding above
+above-more rs r =
+    ap (lowest 0 (λ p. getD (rs ++ (r ∷ [])) p none)) (length-more rs r) ∙ lowest-more 0 (λ p. getD (rs ++ (r ∷ [])) p none) (length rs)
+    ∙ ap (λ (x : Record). x .leaf + 1) (getD-last rs r none)
+
+records-front : (o : List ℕ) (rs xs : List Record) (p : ℕ) → p ≤ length rs → withRecords o (rs ++ xs) p ≡ withRecords o rs p
+unfolding withRecords
+records-front o rs xs zero h = refl
+records-front o rs xs (suc p) h = λ i. withRecord (records-front o rs xs p (omega arith) i) p (recordBytes (List·getD-append rs xs none p (omega arith) i))
+
+pub with-more : (o : List ℕ) (rs : List Record) (p : ℕ) → withRecords o rs (p + 1) ≡ withRecord (withRecords o rs p) p (recordBytes (getD rs p none))
+unfolding withRecords
+with-more o rs p = rw (add-one p)
+
+records-last : (o : List ℕ) (rs : List Record) (r : Record)
+    → withRecord (withRecords o rs (length rs)) (length rs) (recordBytes r) ≡ withRecords o (rs ++ (r ∷ [])) (length (rs ++ (r ∷ [])))
+records-last o rs r =
+    sym (ap (withRecords o (rs ++ (r ∷ []))) (length-more rs r) ∙ with-more o (rs ++ (r ∷ [])) (length rs)
+    ∙ (λ i. withRecord (records-front o rs (r ∷ []) (length rs) (omega arith) i) (length rs) (recordBytes (getD-last rs r none i))))
+
+entries-front : (l es xs : List ℕ) (k : ℕ) → k ≤ length es → withEntries l (es ++ xs) k ≡ withEntries l es k
+unfolding withEntries
+entries-front l es xs zero h = refl
+entries-front l es xs (suc k) h = λ i. putW 1 (entries-front l es xs k (omega arith) i) k (List·getD-append es xs 0 k (omega arith) i ∷ [])
+
+pub entries-more : (l es : List ℕ) (k : ℕ) → withEntries l es (k + 1) ≡ putW 1 (withEntries l es k) k (getD es k 0 ∷ [])
+unfolding withEntries
+entries-more l es k = rw (add-one k)
+
+entries-last : (l es : List ℕ) (x : ℕ)
+    → putW 1 (withEntries l es (length es)) (length es) (x ∷ []) ≡ withEntries l (es ++ (x ∷ [])) (length (es ++ (x ∷ [])))
+entries-last l es x =
+    sym (ap (withEntries l (es ++ (x ∷ []))) (length-more es x) ∙ entries-more l (es ++ (x ∷ [])) (length es)
+    ∙ (λ i. putW 1 (entries-front l es (x ∷ []) (length es) (omega arith) i) (length es) (getD-last es x 0 i ∷ [])))
+
+-- what the walk has: nothing, one record more, one entry more
+pub at-start : (o l : List ℕ) → At o l (record { kept = []; listed = [] }) 0 0 0 o l
+unfolding withRecords withEntries
+at-start o l = record { kept-is = refl; low-is = sym above-none; listed-is = refl; output-is = refl; list-is = refl }
+
+module _ (o l : List ℕ) (t : Taken) (kept low listed : ℕ) (output list : List ℕ) (a : At o l t kept low listed output list) where
+  pub at-record : (r : Record) → At o l (record { kept = t .kept ++ (r ∷ []); listed = t .listed }) (kept + 1) (r .leaf + 1) listed (withRecord output kept (recordBytes r)) list
+  at-record r =
+      record {
+        kept-is = omega (arith, a .kept-is, length-more (t .kept) r);
+        low-is = sym (above-more (t .kept) r);
+        listed-is = a .listed-is;
+        output-is = (λ i. withRecord (a .output-is i) (a .kept-is i) (recordBytes r)) ∙ records-last o (t .kept) r;
+        list-is = a .list-is;
+      }
+
+  pub at-entry : (x : ℕ) → At o l (record { kept = t .kept; listed = t .listed ++ (x ∷ []) }) kept low (listed + 1) output (putW 1 list listed (x ∷ []))
+  at-entry x =
+      record {
+        kept-is = a .kept-is;
+        low-is = a .low-is;
+        listed-is = omega (arith, a .listed-is, length-more (t .listed) x);
+        output-is = a .output-is;
+        list-is = (λ i. putW 1 (a .list-is i) (a .listed-is i) (x ∷ [])) ∙ entries-last l (t .listed) x;
+      }
+
+-- record i of a block, good above the leaves below `low` or not, as the code finds it
+module _ (n low : ℕ) (b : List ℕ) (i : ℕ) (long : length b ≡ 512) (few : i < 7) where
+  abbrev leaf : ℕ
+  leaf = numberAt 4 b (8 + 68 * i)
+
+  good-fields : recordGood n low b i ≡ true → both (leb low leaf) (both (ltb leaf n) (no (allZero (part b (12 + 68 * i) 64)))) ≡ true
+  good-fields h = sym (record-by n low b i long few ∙ good-by n low (recordIn b i)) ∙ h
+
+  pub good-above : recordGood n low b i ≡ true → low ≤ leaf
+  good-above h = leb-true low leaf (both-left _ _ (good-fields h))
+
+  pub good-below : recordGood n low b i ≡ true → leaf < n
+  good-below h = ltb-true leaf n (both-left _ _ (both-right _ _ (good-fields h)))
+
+  module _ (j kept listed : ℕ) (output list : List ℕ) where
+    pub took : recordGood n low b i ≡ true → (k : ℕ) (content after : List ℕ) → k ≡ leaf → content ≡ blockOr0 b (12 + 68 * i)
+        → after ≡ withRecord output kept (bytes 4 k ++ content)
+        → (o l : List ℕ) (t : Taken) → At o l t kept low listed output list → At o l (takeRecord n j b t i) (kept + 1) (k + 1) listed after list
+    took h k content after e f g o l t a =
+        let q : goodAbove n (above (t .kept)) (recordIn b i) ≡ true =
+        ap (λ (x : ℕ). goodAbove n x (recordIn b i)) (sym (a .low-is)) ∙ sym (record-by n low b i long few) ∙ h in
+        let s : after ≡ withRecord output kept (recordBytes (recordIn b i)) =
+        g ∙ (λ x. withRecord output kept (bytes 4 (e x) ++ (f ∙ blockOr0-fits b (12 + 68 * i) (omega arith)) x)) in
+        rw (record-kept n j b t i q, s, e) (at-record o l t kept low listed output list a (recordIn b i))
+
+    pub passed : recordGood n low b i ≡ false → (after : List ℕ) → after ≡ putW 1 list listed ((8 * j + i) ∷ [])
+        → (o l : List ℕ) (t : Taken) → At o l t kept low listed output list → At o l (takeRecord n j b t i) kept low (listed + 1) output after
+    passed h after g o l t a =
+        let q : goodAbove n (above (t .kept)) (recordIn b i) ≡ false =
+        ap (λ (x : ℕ). goodAbove n x (recordIn b i)) (sym (a .low-is)) ∙ sym (record-by n low b i long few) ∙ h in
+        rw (record-left n j b t i q, g) (at-entry o l t kept low listed output list a (8 * j + i))
+
+-- block j is used, as the code finds it of the block that is lent
+pub used-is : (image : List ℕ) (j : ℕ) {v : ℕ} {r : Bool} → v ≡ versionIn image
+    → r ≡ both (checkRight (modulusFor v) (take (512 * j + 512 - 512 * j) (drop (512 * j) image))) (blockSound (eqb (j + 1) (wholeBlocks image)) j (take (512 * j + 512 - 512 * j) (drop (512 * j) image)))
+    → r ≡ used image j
+unfolding used
+used-is image j e h = h ∙ (λ i. both (sym (check-is image j e refl) i) (blockSound (eqb (j + 1) (wholeBlocks image)) j (part-is image (512 * j) 512 i)))
+
+-- a block that is used has at most seven records
+pub used-few : (image : List ℕ) (j : ℕ) → used image j ≡ true → countOf (imageBlock image j) ≤ 7
+unfolding used
+used-few image j h =
+    count-bounds (eqb (j + 1) (wholeBlocks image)) (countOf (imageBlock image j)) (sound-count (eqb (j + 1) (wholeBlocks image)) j (imageBlock image j) (both-right _ _ h)) .1
+
+pub blocks-none : (image : List ℕ) → takeBlocks image 0 ≡ record { kept = []; listed = [] }
+unfolding takeBlocks
+blocks-none image = refl
+
+pub blocks-more : (image : List ℕ) (j : ℕ) {n : ℕ} {s : Bool} {b : List ℕ} → 1 ≤ j → n ≡ leavesIn image → s ≡ used image j → b ≡ imageBlock image j
+    → takeBlock n j s b (takeBlocks image (j - 1)) ≡ takeBlocks image (j + 1 - 1)
+unfolding takeBlocks
+blocks-more image zero l e f g = absurd (omega arith)
+blocks-more image (suc j) l e f g =
+    let p : suc j - 1 ≡ j = omega arith in
+    let q : suc (suc j - 1) ≡ suc j + 1 - 1 = omega arith in
+    (λ i. takeBlock (e i) (suc j) (f i) (g i) (takeBlocks image (p i))) ∙ ap (takeBlocks image) (ap suc (sym p) ∙ q)
