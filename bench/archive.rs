@@ -1,5 +1,5 @@
-//! MB/s of the image test, writing and restoring: libworkbench.a beside a plain Rust
-//! version written for speed, in one run. `bench/archive.sh [ROUNDS]` builds and runs it
+//! MB/s of the image test, writing and restoring: libmodel.a beside a plain Rust
+//! version written for speed, in one run. `bench/calls.sh archive [ROUNDS]` builds and runs it
 //! (default 15): each round runs both, one after the other, and the best times count. MB
 //! are 1,000,000 bytes of the image. The largest memory, with 60 of 100 leaves in use and
 //! with 2.
@@ -11,20 +11,20 @@ use model::draw::{self, Random};
 use std::time::Instant;
 
 extern "C" {
-    fn bench_write_image(
+    fn tag_write_image(
         n: u64,
         memory: *const u8,
         memory_length: usize,
         output: *mut u8,
         output_length: usize,
     ) -> u64;
-    fn bench_restore(
+    fn tag_restore(
         image: *const u8,
         image_length: usize,
         memory: *mut u8,
         memory_length: usize,
     ) -> u64;
-    fn bench_image_test(image: *const u8, image_length: usize) -> u64;
+    fn tag_image_test(image: *const u8, image_length: usize) -> u64;
 }
 
 // ------------------------------------------------------------ Plain Rust, for speed
@@ -244,7 +244,7 @@ fn main() {
             rounds,
             || {
                 let (from, into) = (memory.as_ptr(), one.as_mut_ptr());
-                let got = unsafe { bench_write_image(n, from, memory.len(), into, one.len()) };
+                let got = unsafe { tag_write_image(n, from, memory.len(), into, one.len()) };
                 assert_eq!(got, length as u64);
             },
             || assert_eq!(plain::write_image(n, &memory, &mut other), Ok(length)),
@@ -253,7 +253,7 @@ fn main() {
         let image = &one[..length];
         let testing = best(
             rounds,
-            || assert_eq!(unsafe { bench_image_test(image.as_ptr(), length) }, 0),
+            || assert_eq!(unsafe { tag_image_test(image.as_ptr(), length) }, 0),
             || assert_eq!(plain::image_test(image), 0),
         );
         let (mut here, mut there) = (vec![0xff; memory.len()], vec![0xff; memory.len()]);
@@ -261,7 +261,7 @@ fn main() {
             rounds,
             || {
                 let (from, into) = (image.as_ptr(), here.as_mut_ptr());
-                assert_eq!(unsafe { bench_restore(from, length, into, here.len()) }, 0)
+                assert_eq!(unsafe { tag_restore(from, length, into, here.len()) }, 0)
             },
             || assert_eq!(plain::restore(image, &mut there), 0),
         );

@@ -1,6 +1,6 @@
 //! Nanoseconds of a call of libmodel.a on a cache beside the plain Rust cache of
 //! `bench/plain.rs`, with a test of the whole state before each call, as the library has, and
-//! without. `bench/harness.sh [ROUNDS]` builds and runs it (default 5): the same million calls
+//! without. `bench/calls.sh harness [ROUNDS]` builds and runs it (default 5): the same million calls
 //! by each, one after the other, the best times count.
 
 #[path = "plain.rs"]

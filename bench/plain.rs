@@ -1,7 +1,7 @@
 //! Replay as a plain Rust program: the same step rules, the same output, the state behind
 //! `&mut`, standard input read in chunks and output buffered. Nothing is proved here: it is
 //! what the proved replay is timed against (`bench/replay.sh`), and its cache what the
-//! library's calls are (`bench/harness.sh`).
+//! library's calls are (`bench/calls.sh harness`).
 
 use std::io::{self, Read, Write};
 

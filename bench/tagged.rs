@@ -1,5 +1,5 @@
-//! Times of "is anything tagged between here and there" (02, E1): libhost.a beside a plain
-//! Rust version written for speed, in one run. `bench/tagged.sh [ROUNDS]` builds and runs it
+//! Times of "is anything tagged between here and there" (02, E1): libmodel.a beside a plain
+//! Rust version written for speed, in one run. `bench/calls.sh tagged [ROUNDS]` builds and runs it
 //! (default 200): each round runs both, one after the other, and the best times count. The
 //! largest memory: none of its leaves in use, 2 of 100, and 60. The whole memory is asked; the
 //! sweep asks again and again from the group after the last one found.

@@ -1,4 +1,4 @@
-//! Writing, testing and restoring images by libworkbench.a against the model: random true
+//! Writing, testing and restoring images by libmodel.a against the model: random true
 //! memories and others, outputs too short, exact and longer, restoring into dirty memories
 //! of right and wrong lengths, damaged images. All lent bytes are compared, so a refused
 //! call that changed one is found. `archive DRIVER [SEED]`, in the root of the repository,
@@ -13,9 +13,9 @@ use driver::{Driver, Function};
 use model::draw::{self, Random};
 use std::process::exit;
 
-const WRITE_IMAGE: Function = Function(0, "bench_write_image");
-const RESTORE: Function = Function(1, "bench_restore");
-const IMAGE_TEST: Function = Function(2, "bench_image_test");
+const WRITE_IMAGE: Function = Function(0, "tag_write_image");
+const RESTORE: Function = Function(1, "tag_restore");
+const IMAGE_TEST: Function = Function(2, "tag_image_test");
 
 fn same(driver: &mut Driver, what: &str, got: bool) {
     if !got {
@@ -44,7 +44,8 @@ fn restore(driver: &mut Driver, random: &mut Random, image: &[u8], length: usize
     let (from, into) = (driver.put(0, image), driver.put(1, &memory));
     let expected = model::restore(image, &mut memory);
     driver.call(IMAGE_TEST, vec![Read(from.clone())], model::image_test(image), vec![]);
-    driver.call(RESTORE, vec![Read(from), Change(into)], expected, vec![memory]);
+    let answer = if expected == 0 { 0 } else { (1 << 32) + expected };
+    driver.call(RESTORE, vec![Read(from), Change(into)], answer, vec![memory]);
     expected
 }
 

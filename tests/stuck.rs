@@ -15,9 +15,9 @@ use driver::{Driver, Function};
 use model::draw::{self, Random};
 use std::process::exit;
 
-const WRITE_IMAGE: Function = Function(0, "bench_write_image");
-const RESTORE: Function = Function(1, "bench_restore");
-const IMAGE_TEST: Function = Function(2, "bench_image_test");
+const WRITE_IMAGE: Function = Function(0, "tag_write_image");
+const RESTORE: Function = Function(1, "tag_restore");
+const IMAGE_TEST: Function = Function(2, "tag_image_test");
 
 fn expect(driver: &mut Driver, what: &str, right: bool) {
     if !right {
