@@ -125,7 +125,7 @@ impl Cache {
     }
 
     fn issue(&mut self, x: u32, group: u32, write: Option<u32>, bottom_up: bool) -> Answer {
-        let Some(tracker) = self.trackers.get_mut(x as usize) else {
+        let Some(tracker) = self.trackers.get(x as usize) else {
             return Answer::No(5);
         };
         if group >= 16 * self.n {
@@ -134,7 +134,14 @@ impl Cache {
         if tracker.phase != Phase::Idle {
             return Answer::No(7);
         }
-        *tracker = Tracker {
+        if self.trackers.iter().any(|other| {
+            other.phase != Phase::Idle
+                && other.group == group
+                && (write.is_some() || other.write)
+        }) {
+            return Answer::No(13);
+        }
+        self.trackers[x as usize] = Tracker {
             phase: if bottom_up { Phase::Probe } else { Phase::Map },
             write: write.is_some(),
             turns: 0,

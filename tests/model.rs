@@ -1,4 +1,5 @@
-//! The model: document 01 in plain Rust, in 01's order and words, written from 01 alone.
+//! The model: document 01 in plain Rust, in 01's order and words, written from 01 alone,
+//! and from 02 where a request changes it.
 //! The proved programs are compared with it. It is meant to be read beside the paper, so
 //! it is simple and not fast: lines and trackers are enums, and who holds a map block is
 //! found by asking every tracker. Refusals are 01's numbers. The last part, `draw`, is no
@@ -309,7 +310,8 @@ impl Machine {
 // ============================================================ One step of a tracker
 
 impl Machine {
-    /// Issue an access to tracker x. Refusals 4, 2, 5, 6, 7.
+    /// Issue an access to tracker x. Refusals 4, 2, 5, 6, 7, 13: a write to a group that any
+    /// busy tracker has, and a read of a group that a busy write has (02, E3).
     pub fn issue(&mut self, x: u64, access: Access, bytes: &[u8], memory: &[u8]) -> Answer {
         if !self.whole() {
             return Answer::No(4);
@@ -325,6 +327,13 @@ impl Machine {
         }
         if self.trackers[x as usize].busy() {
             return Answer::No(7);
+        }
+        for tracker in &self.trackers {
+            if let Tracker::Busy { access: other, .. } = tracker {
+                if other.g == access.g && (access.write.is_some() || other.write.is_some()) {
+                    return Answer::No(13);
+                }
+            }
         }
         let phase = if access.bottom_up { Phase::Probe } else { Phase::Map };
         self.trackers[x as usize] = Tracker::Busy { access, phase, turns: 0 };

@@ -31,7 +31,7 @@ w 0 17 0000000a t; s 0; s 0; s 0; w 0 33 0000000b t; s 0; s 0; s 0; w 0 49 00000
 r 0 17 b; s 0; s 0; s 0; d''')
 run('map-wait', 'Map: another tracker holds the map block, so the step waits and counts a turn; at Leaf and at Finish of the holder, and of two in line', '''
 n 4 4 3; w 0 17 0000000a t; w 1 33 0000000b t; r 2 49 b; s 0; s 1; s 2; s 2; s 1; s 0; s 1; s 2; s 0
-s 2; s 1; s 1; s 1; r 2 33 t; w 0 33 0000000c b; s 2; s 0; s 0; s 2; s 0; s 0; d''')
+s 2; s 1; s 1; s 1; r 2 33 t; w 0 34 0000000c b; s 2; s 0; s 0; s 2; s 0; s 0; d''')
 run('map-zero-read', 'Map: bit 0, so a read ends with 0, top-down at its first turn and bottom-up at its second', '''
 n 2 3 2; r 0 0 t; s 0; r 0 31 t; s 0; r 1 16 b; s 1; s 1; d''')
 run('map-zero-same', 'Map: bit 0, so a write of 0 ends "same", top-down at its first turn and bottom-up at its second', '''
@@ -60,7 +60,10 @@ n 800 2 1; w 0 0 00000001 t; s 0; s 0; s 0; w 0 8192 00000002 t; s 0; s 0; s 0; 
 w 0 0 00000000 t; s 0; s 0; s 0; r 0 8192 b; s 0; s 0; s 0; r 0 0 b; s 0; s 0; d''')
 run('two-maps', 'Two trackers under two map blocks: neither waits for the other', '''
 n 600 6 2; w 0 17 0000000a t; w 1 8320 0000000b t; s 0; s 1; s 0; s 1; s 0; s 1; r 0 8320 t; r 1 17 t; s 1; s 0; s 0; s 1; d''')
-run('refused', 'The refusals that a script can meet after its first line, and that each leaves all as it was', '''
+run('one-group', 'Two accesses to one group: a read beside a read passes; a write beside a read, and either beside a write, at Finish too, is refused 13; a busy tracker 7 first; another group of the leaf passes', '''
+n 2 4 3; r 0 17 t; r 1 17 b; w 2 17 0000000a t; w 0 17 0000000a t; s 0; w 2 17 0000000a t; s 1; s 1
+w 2 17 0000000a t; r 0 17 b; w 1 17 00000000 t; r 0 18 t; s 2; s 0; s 2; r 1 17 b; s 2; r 1 17 b; s 1; s 0; s 0; d''')
+run('refused', 'The refusals that a script can meet after its first line but 13, and that each leaves all as it was', '''
 n 2 3 2; r 2 0 t; r 0 32 t; w 0 17 0000000a t; w 0 17 0000000b t; d; s 1; s 2; s 0; x; n 2 3 2; s 0; r 1 0 z; w 1 17 A t; s 0; s 0; s 1; d; r 0 17 b; s 0''')
 run('refused-first', 'A first line out of limits: refusal 1, and 12 for every line after it', '''
 n 801 3 2; n 2 3 2; r 0 0 t; s 0; d''')

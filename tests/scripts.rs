@@ -4,7 +4,8 @@
 //! then random ones of every kind until LINES more lines (default 1,000,000) are played.
 //! The first difference is printed, its script saved, and the status is 1. Among them are
 //! circle runs: the trackers are given turns in a fixed circle, idle ones passed over, and
-//! no ending may have more turns than its bound. Ends with `scripts: N scripts, M lines`.
+//! no ending may have more turns than its bound. Prints how often two accesses to one group
+//! were refused (13). Ends with `scripts: N scripts, M lines`.
 
 mod model;
 
@@ -62,6 +63,7 @@ struct Player {
     lines: u64,
     endings: u64,
     at_bound: u64,
+    refused_13: u64,
 }
 
 impl Player {
@@ -76,6 +78,8 @@ impl Player {
         if output != expected {
             self.different(script, &output, &expected);
         }
+        self.refused_13 +=
+            output.split(|&b| b == b'\n').filter(|line| line.ends_with(b" no 13")).count() as u64;
         for (line, bound) in output.split(|&b| b == b'\n').zip(bounds) {
             let Some(bound) = bound else { continue };
             let words: Vec<_> = std::str::from_utf8(line).unwrap().split(' ').collect();
@@ -193,8 +197,8 @@ const CASE_R: &str =
     "n 2 3 2\nw 0 17 0000000a t\nw 1 17 00000000 t\ns 0\ns 1\ns 0\ns 0\ns 1\ns 1\n\
                       s 1\nr 0 17 b\ns 0\ns 0\nd\n";
 const CASE_R_OUTPUT: &str =
-    "1 ok\n2 ok\n3 ok\n4 moved\n5 wait\n6 moved\n7 done turns 3\n8 moved\n9 moved\n\
-                             10 done turns 4\n11 ok\n12 moved\n13 read 00000000 turns 2\n14 ok\n";
+    "1 ok\n2 ok\n3 no 13\n4 moved\n5 no 8\n6 moved\n7 done turns 3\n8 no 8\n9 no 8\n\
+                             10 no 8\n11 ok\n12 read 0000000a turns 1\n13 no 8\n14 ok\n";
 
 /// Lines that are not of the form, or nearly not.
 fn bad_lines() -> Vec<Vec<u8>> {
@@ -682,8 +686,15 @@ fn main() {
         exit(2)
     };
     let (seed, least) = (number(2, 1), number(3, 1_000_000));
-    let mut player =
-        Player { program: program.clone(), seed, scripts: 0, lines: 0, endings: 0, at_bound: 0 };
+    let mut player = Player {
+        program: program.clone(),
+        seed,
+        scripts: 0,
+        lines: 0,
+        endings: 0,
+        at_bound: 0,
+        refused_13: 0,
+    };
     edges(&mut player);
     println!("scripts: {} edge scripts, {} lines", player.scripts, player.lines);
     let mut random = Random(seed);
@@ -712,5 +723,6 @@ fn main() {
         "scripts: {} endings under a circle, {} at their bound, none above",
         player.endings, player.at_bound
     );
+    println!("scripts: {} issues refused 13", player.refused_13);
     println!("scripts: {} scripts, {} lines", player.scripts, player.lines);
 }

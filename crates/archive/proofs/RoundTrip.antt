@@ -9,11 +9,12 @@ use lib.Dec.{eqb}
 use lib.ListN.{length, take}
 use lib.Seq.{ext-getD}
 use borrow.Author.Tests.{eq-eqb, eqb-true, eqb-false}
-use Rattle.laws.specs.Bytes.{part, numberAt, Bytes}
+use Rattle.laws.specs.Bytes.{part, splice, numberAt, Bytes}
 use Rattle.laws.proofs.Choice.{true-or-false}
 use Rattle.laws.proofs.Splice.{lt-or-ge}
 use Rattle.laws.proofs.Parts.{numberAt-part}
 use Rattle.laws.proofs.Writes.{take-splice}
+use Rattle.laws.proofs.Refusal.{refusal-0, unless-0}
 use Rattle.geometry.specs.TagMemory.{groups, leafOf, byteOf, inLimits, memoryLength}
 use Rattle.geometry.proofs.Places.{leafOf-lt, byteOf-lt}
 use Rattle.memory.specs.PlainReading.{leafBit, plainGroup, plainReading}
@@ -23,7 +24,7 @@ use Rattle.memory.proofs.Reading.{plainGroup-0, plainGroup-1, refused-6}
 use Rattle.memory.proofs.Reading.{accepted as reading-accepted}
 use Rattle.image.specs.Encode.{Form, Fit, Record, none, recordsBelow, recordsOf, encode, imageOf}
 use Rattle.image.specs.Test.{formOf, leavesIn, recordedIn, recordAt, testBy, imageTest}
-use Rattle.image.specs.Calls.{writingRefusal, writingAnswer, written, recordsIn, memoryOf, restoringRefusal, restored}
+use Rattle.image.specs.Calls.{writingRefusal, writingAnswer, written, recordsIn, memoryOf, restoringTests, restoringRefusal, restored}
 use Rattle.image.proofs.Rules.{Accepted, accepted}
 use Rattle.image.proofs.Records.{Marked, marked, marked-is, below-at, length-below, length-take, length-rises, length-recordsTo, recordsTo-at}
 use Rattle.reader.specs.Read.{theEnd}
@@ -55,12 +56,11 @@ module _ (n : ℕ) (x y : List ℕ) (h : inLimits n ≡ true) (lx : length x ≡
       (true-or-false (eqb (leafBit n y k) 1))
 
   pub same-reading : (g : ℕ) → plainReading n x g ≡ plainReading n y g
-  unfolding groups
   same-reading g =
       ⊎-elim
-      (λ (q : g < 16 * n). reading-accepted n x g h lx q ∙ same-group g q ∙ sym (reading-accepted n y g h ly q))
-      (λ (q : 16 * n ≤ g). refused-6 n x g h lx q ∙ sym (refused-6 n y g h ly q))
-      (lt-or-ge g (16 * n))
+      (λ (q : g < groups n). reading-accepted n x g h lx q ∙ same-group g q ∙ sym (reading-accepted n y g h ly q))
+      (λ (q : groups n ≤ g). refused-6 n x g h lx q ∙ sym (refused-6 n y g h ly q))
+      (lt-or-ge g (groups n))
 
 -- of any form
 module _ (F : Form) (fit : Fit F) where
@@ -151,11 +151,11 @@ module _ (F : Form) (fit : Fit F) where
       pub restoring-accepted : restoringRefusal image (length old) ≡ 0
       unfolding restoringRefusal
       restoring-accepted =
-          rw (own-accepted, eq-eqb (length old) (memoryLength (leavesIn image)) (o ∙ ap memoryLength (sym image-leaves)))
+          refusal-0 (restoringTests image (length old)) (eq-eqb (imageTest image) 0 own-accepted, (eq-eqb (length old) (memoryLength (leavesIn image)) (o ∙ ap memoryLength (sym image-leaves)), tt))
 
       pub restored-is : restored image old ≡ back
       unfolding restored
-      restored-is = rw (restoring-accepted, image-leaves, image-records)
+      restored-is = unless-0 (memoryOf (leavesIn image) (recordsIn image)) (λ c. old) restoring-accepted ∙ rw (image-leaves, image-records)
 
       pub restored-true : isTrue n (restored image old) ≡ true
       restored-true = ap (isTrue n) restored-is ∙ memory-true n rs G
@@ -195,4 +195,4 @@ module _ (F : Form) (fit : Fit F) where
 -- what writing leaves in front of the output, as long as it answers, is the image
 pub written-front : (n : ℕ) (mem output : List ℕ) → writingRefusal n mem (length output) ≡ 0 → take (writingAnswer n mem (length output)) (written n mem output) ≡ imageOf n mem
 unfolding writingAnswer written
-written-front n mem output e = rw e (take-splice output (imageOf n mem) (length (imageOf n mem)) refl)
+written-front n mem output e = rw (unless-0 {c = writingRefusal n mem (length output)} (length (imageOf n mem)) (λ c. 4294967296 + c) e, unless-0 {c = writingRefusal n mem (length output)} (splice output 0 (imageOf n mem)) (λ c. output) e) (take-splice output (imageOf n mem) (length (imageOf n mem)) refl)

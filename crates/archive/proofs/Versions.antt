@@ -12,7 +12,8 @@ use Rattle.memory.specs.PlainReading.{plainReading}
 use Rattle.memory.specs.True.{isTrue}
 use Rattle.image.specs.Encode.{Form, Fit, version1, version2, formFor, Record, recordsOf, encode, imageOf, oldImageOf}
 use Rattle.image.specs.Test.{versionIn, formOf, testBy, imageTest}
-use Rattle.image.specs.Calls.{writingRefusal, writingAnswer, written, restored}
+use Rattle.laws.proofs.Refusal.{refusal-0}
+use Rattle.image.specs.Calls.{writingTests, writingRefusal, writingAnswer, written, restored}
 use Rattle.image.proofs.Sound.{form-old, form-new, fit-1, fit-2}
 use Rattle.image.proofs.Records.{length-below}
 use Rattle.archive.specs.Theorems.{Good, TrueImage}
@@ -77,7 +78,7 @@ new-could-accepted image I = ap imageTest (sym (I .same)) ∙ new-accepted (I .n
 -- and the new one does write it, into any output that has room
 not-refused : (n : ℕ) (mem : List ℕ) (room : ℕ) → inLimits n ≡ true → length mem ≡ memoryLength n → isTrue n mem ≡ true → length (imageOf n mem) ≤ room → writingRefusal n mem room ≡ 0
 unfolding writingRefusal
-not-refused n mem room h l t r = rw (h, eq-eqb (length mem) (memoryLength n) l, t, le-leb (length (imageOf n mem)) room r)
+not-refused n mem room h l t r = refusal-0 (writingTests n mem room) (h, (eq-eqb (length mem) (memoryLength n) l, (t, (le-leb (length (imageOf n mem)) room r, tt))))
 
 pub new-writes : (image : List ℕ) (I : TrueImage version2 image) (output : List ℕ) → length image ≤ length output
     → (writingRefusal (I .n) (I .mem) (length output) ≡ 0) × (take (writingAnswer (I .n) (I .mem) (length output)) (written (I .n) (I .mem) output) ≡ image)

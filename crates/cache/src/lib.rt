@@ -165,7 +165,7 @@ impl State {
         0
     }
 
-    // The refusal of an issue, 4, 2, 5, 6, 7; 0 if none.
+    // The refusal of an issue, 4, 2, 5, 6, 7, 13; 0 if none.
     fn issue_refusal(self, bytes: &[u8], memory: &[u8], x: u64, access: Access) -> u8
         ensures { λ r. ⌜ r ≡ issueNo (seen self) (now (bytes .entry)) (now (memory .entry)) x access ⌝ }
     {
@@ -178,7 +178,7 @@ impl State {
         whole::issue_refusal(shape, x, access, trackers)
     }
 
-    // An access for tracker x: refusals 4, 2, 5, 6, 7.
+    // An access for tracker x: refusals 4, 2, 5, 6, 7, 13.
     pub fn issue(mut self, bytes: &[u8], memory: &[u8], x: u64, access: Access) -> Out
         ensures { λ r. ⌜ did r (now (bytes .entry)) (now (memory .entry)) ≡ issue (seen self) (now (bytes .entry)) (now (memory .entry)) x access ⌝ }
     {

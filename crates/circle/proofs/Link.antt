@@ -97,11 +97,12 @@ module _ (k : Kept) (s : Ready k) (x : ℕ) (h : x < k .state .shape .t) (b : is
 pub record Same (t t' : Tracker) : Type 0 where
   pub write : t' .write ≡ t .write
   pub bottom : t' .bottom ≡ t .bottom
+  pub group : t' .group ≡ t .group
   pub turns : t' .turns ≡ tick (t .turns)
 
 pub still-busy : (t t' : Tracker) (m : Move Phase) (said : Said) → Moved t m said t' → isIdle t' ≡ false → Same t t'
-still-busy t t' waits said h b = rw (h .1) (record { write = refl; bottom = refl; turns = refl })
-still-busy t t' (to p) said h b = rw (h .1) (record { write = refl; bottom = refl; turns = refl })
+still-busy t t' waits said h b = rw (h .1) (record { write = refl; bottom = refl; group = refl; turns = refl })
+still-busy t t' (to p) said h b = rw (h .1) (record { write = refl; bottom = refl; group = refl; turns = refl })
 still-busy t t' ends said h b = absurd (not-both-ways (ap isIdle (h .1)) b)
 
 one-ending : (a : Said) (m n : ℕ) → Ending a m → Ending a n → m ≡ n

@@ -147,7 +147,6 @@ first seen limit start = record {
 
 -- plain reading of a group that exists
 pub plain-is : (n : ℕ) (memory : List ℕ) (g : ℕ) → inLimits n ≡ true → length memory ≡ memoryLength n → g < groups n → plainReading n memory g ≡ plainGroup n memory g
-unfolding groups
 plain-is n memory g h l q = accepted n memory g h l q
 
 -- a state at rest that agrees with a row: its memory is true, and reads as the row

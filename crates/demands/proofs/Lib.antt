@@ -12,6 +12,7 @@ pub mod Extends
 pub mod Demand2
 pub mod Image
 pub mod Runs
+pub mod OneGroup
 pub mod Reached
 pub mod Worked
 pub mod Replay

@@ -89,8 +89,8 @@ ending-told x (Said.same turns) k e = (Told.same, ap (Event.ends x Told.same) e)
 
 turn-by : (x : ℕ) (t t' : Tracker) (m : Move Phase) (said : Said) → isIdle t ≡ false → ((q : Phase) → m ≡ to q → isIdleAt q ≡ false) → Moved t m said t'
     → Turn x t t' (event (steps x) said)
-turn-by x t t' waits said b f h = went (rw (h .0) refl) (rw (h .1) b) (rw (h .1) (record { write = refl; bottom = refl; turns = refl }))
-turn-by x t t' (to p) said b f h = went (rw (h .0) refl) (rw (h .1) (f p refl)) (rw (h .1) (record { write = refl; bottom = refl; turns = refl }))
+turn-by x t t' waits said b f h = went (rw (h .0) refl) (rw (h .1) b) (rw (h .1) (record { write = refl; bottom = refl; group = refl; turns = refl }))
+turn-by x t t' (to p) said b f h = went (rw (h .0) refl) (rw (h .1) (f p refl)) (rw (h .1) (record { write = refl; bottom = refl; group = refl; turns = refl }))
 turn-by x t t' ends said b f h = let e = ending-told x said (tick (t .turns)) (h .0) in over (e .0) (e .1) (rw (h .1) refl)
 
 pub turn-tracker : (x y : ℕ) (t t' : Tracker) (e : Event) → Turn x t t' e → TurnOf y e → x ≡ y

@@ -19,7 +19,7 @@ use Rattle.tracker.specs.declared.Phase.the-variants.{Idle, Probe, Map, Leaf, S
 use Rattle.tracker.specs.declared.Tracker.{Tracker}
 use Rattle.tracker.specs.Tracker.{isIdle}
 use Rattle.tracker.specs.Tracker as Tracker
-use Rattle.line.specs.Word.{changed, held, word, heldBy}
+use Rattle.line.specs.Word.{changed, held, word, heldBy, lineBlocks, marks}
 use Rattle.line.specs.Find.{lineOf}
 use Rattle.line.proofs.Words.{free-changed, not-used, changed-odd}
 use Rattle.rules.specs.State.{Rows, trackerAt, lengthsRight}
@@ -57,7 +57,7 @@ clean-set (v ∷ lines) (suc i) w c h (suc j) = clean-set lines i w (λ k. c (su
 
 clean-word : (b h : ℕ) → changed (word b false h) ≡ false
 unfolding word
-clean-word b h = pick-by (λ (w : ℕ). changed w ≡ false) (both (ltb b 16777215) (ltb h 128)) (λ _. changed-odd (1 + 0 + 2 * h + 256 * b) (omega arith)) (λ _. free-changed)
+clean-word b h = pick-by (λ (w : ℕ). changed w ≡ false) (both (ltb b lineBlocks) (ltb h marks)) (λ _. changed-odd (1 + 0 + 2 * h + 256 * b) (omega arith)) (λ _. free-changed)
 
 clean-held : (w h : ℕ) → changed w ≡ false → changed (heldBy w h) ≡ false
 unfolding heldBy

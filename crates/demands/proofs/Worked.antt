@@ -6,7 +6,7 @@ use Prim.Native.Nat.{ℕ, zero, suc}
 use lib.ListN.{replicate}
 use Rattle.tracker.specs.declared.Access.{Access}
 use Rattle.tracker.specs.Tracker.{readOf, writeOf}
-use Rattle.laws.specs.Choice.{both, implies, no}
+use Rattle.laws.specs.Choice.{both, either, implies, no}
 use Rattle.laws.specs.Refusal.{refusal, unless}
 use Rattle.laws.specs.Bytes.{part, splice, fits, putW, value, bytes, numberAt}
 use Rattle.laws.specs.Scan.{first, all}
@@ -22,7 +22,7 @@ use Rattle.rules.specs.State.{lengthsRight}
 use Rattle.rules.specs.Whole.{limits, holds, lineWhole, trackerWhole, whole}
 use Rattle.rules.specs.Place.{rowsFit, placeLine, placeHand, writtenBack, placeMemory, bringIn, drained}
 use Rattle.rules.specs.Step.{probe, onMap, map, leafRead, putIn, writeUnder1, writeUnder0, leafWrite, finish, inLine, fit, turnOf}
-use Rattle.rules.specs.Calls.{fresh, issueNo, issue, stepNo, step, allIdle, drainNo, drain}
+use Rattle.rules.specs.Calls.{fresh, meets, meetsNone, issueNo, issue, stepNo, step, allIdle, drainNo, drain}
 use Rattle.rules.specs.Run.{Call, issues, steps, drains, Kept, kept, does, answers, ended}
 use Rattle.flat.specs.Flat.{tagged, someHolds, flatIssue, flatStep, flatDrain, flatDoes, flatAnswers, flatEnded}
 use Rattle.flat.specs.Demand.{found, given}
@@ -38,10 +38,10 @@ use native.Mathlib.Omega.{arith}
 abbrev begun : Kept
 begun = kept (fresh 4 2 3 (replicate 192 7) (replicate 320 9))
 
--- A read sees a write that is not yet done; the next write waits for it; a third leaf finds no free line, and the first, changed, is written back;
+-- A read meets the leaf of a write that is not yet done; the next write waits for it; a third leaf finds no free line, and the first, changed, is written back;
 -- it is brought in again and read; a leaf is emptied; a drain.
 abbrev calls : List Call
-calls = issues 0 (writeOf false 17 10) ∷ issues 1 (readOf true 17) ∷ steps 0 ∷ steps 0 ∷ steps 1
+calls = issues 0 (writeOf false 17 10) ∷ issues 1 (readOf true 18) ∷ steps 0 ∷ steps 0 ∷ steps 1
     ∷ issues 1 (writeOf false 33 11) ∷ steps 1 ∷ steps 0 ∷ steps 1 ∷ steps 1
     ∷ issues 0 (writeOf true 49 12) ∷ steps 0 ∷ steps 0 ∷ steps 1 ∷ steps 0 ∷ steps 0 ∷ steps 0
     ∷ issues 1 (readOf false 17) ∷ steps 1 ∷ steps 1
@@ -59,7 +59,7 @@ front (suc n) log = log 0 ∷ front n (λ q. log (suc q))
 pub record Worked : Type 0 where
   pub accepted : fresh 4 2 3 (replicate 192 7) (replicate 320 9) .said ≡ ok
   pub count : logged begun calls .count ≡ 6
-  pub log : front 6 (logged begun calls .log) ≡ entry 0 (writeOf false 17 10) 0 3 7 ∷ entry 1 (readOf true 17) 1 4 4 ∷ entry 1 (writeOf false 33 11) 5 9 13 ∷ entry 0 (writeOf true 49 12) 10 15 16
+  pub log : front 6 (logged begun calls .log) ≡ entry 0 (writeOf false 17 10) 0 3 7 ∷ entry 1 (readOf true 18) 1 4 4 ∷ entry 1 (writeOf false 33 11) 5 9 13 ∷ entry 0 (writeOf true 49 12) 10 15 16
       ∷ entry 1 (readOf false 17) 17 19 19 ∷ entry 0 (writeOf false 33 0) 20 22 23 ∷ []
   -- at rest: nobody is busy, and nothing was written since the drain
   pub idle : (busyAfter (events calls (answers begun calls)) 0 ≡ false) × (busyAfter (events calls (answers begun calls)) 1 ≡ false)
@@ -67,7 +67,7 @@ pub record Worked : Type 0 where
   pub shows : plainReading 4 (ended begun calls .memory) 17 ≡ 10
 
 pub worked : Worked
-unfolding both implies no refusal unless leafOf byteOf groups mapBlockOf mapByteOf mapBitOf mapBlocks part splice fits putW value bytes numberAt first all bitOf withBit inLimits bitAt putBit allZero blockOr0 leafBit plainGroup plainReading trueAt isTrue clearedMap used blockOf changed holder held has word heldBy cleaned lineOf lowestFree looseFrom victim after lengthsRight limits holds lineWhole trackerWhole whole rowsFit placeLine placeHand writtenBack placeMemory bringIn drained probe onMap map leafRead putIn writeUnder1 writeUnder0 leafWrite finish inLine fit turnOf fresh issueNo issue stepNo step allIdle drainNo drain does answers ended tagged someHolds flatIssue flatStep flatDrain flatDoes flatAnswers flatEnded found given watched put more events busyFrom writtenFrom
+unfolding both either implies no refusal unless leafOf byteOf groups mapBlockOf mapByteOf mapBitOf mapBlocks part splice fits putW value bytes numberAt first all bitOf withBit inLimits bitAt putBit allZero blockOr0 leafBit plainGroup plainReading trueAt isTrue clearedMap used blockOf changed holder held has word heldBy cleaned lineOf lowestFree looseFrom victim after lengthsRight limits holds lineWhole trackerWhole whole rowsFit placeLine placeHand writtenBack placeMemory bringIn drained probe onMap map leafRead putIn writeUnder1 writeUnder0 leafWrite finish inLine fit turnOf fresh meets meetsNone issueNo issue stepNo step allIdle drainNo drain does answers ended tagged someHolds flatIssue flatStep flatDrain flatDoes flatAnswers flatEnded found given watched put more events busyFrom writtenFrom
 worked = record { accepted = refl; count = refl; log = refl; idle = (refl, refl); clean = refl; shows = refl }
 
 -- it is a session of the code, and the theorem speaks of it

@@ -5,5 +5,6 @@ pub mod Image
 pub mod Circle
 pub mod Demand3
 pub mod Reached
+pub mod OneGroup
 pub mod Replay
 pub mod Demand1

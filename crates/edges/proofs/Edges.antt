@@ -10,7 +10,8 @@ use lib.ListN.{length}
 use Rattle.geometry.specs.Shape.{shapeOf}
 use Rattle.geometry.specs.TagMemory.{groups, inLimits}
 use Rattle.laws.specs.Refusal.{refusal, unless}
-use Rattle.laws.specs.Choice.{pick}
+use Rattle.laws.specs.Choice.{pick, both}
+use Rattle.laws.specs.Scan.{all}
 use Rattle.laws.proofs.Choice.{both-true, both-false-left, both-false-right}
 use Rattle.geometry.proofs.Lengths.{length-1, length-512, length-513, length-most}
 use Rattle.geometry.proofs.Limits.{inLimits-is, inLimits-none, inLimits-over}
@@ -19,9 +20,10 @@ use Rattle.tracker.specs.declared.Access.{Access}
 use Rattle.tracker.specs.Answer.{ok, no}
 use Rattle.rules.specs.State.{lengthsRight, begun}
 use Rattle.rules.specs.Whole.{limits}
-use Rattle.rules.specs.Calls.{fresh, issueTests, issue}
+use Rattle.rules.specs.Calls.{fresh, meets, meetsNone, issueTests, issue}
 use Rattle.rules.proofs.Begun.{begun-whole}
 use Rattle.rules.proofs.Calls.{lengths-right, issue-accepted, issue-refused}
+use Rattle.rules.proofs.Worked.{worked}
 use Rattle.archive.proofs.Facts.{head-check, old-head-check, blocks-0, blocks-7, blocks-8}
 use Rattle.edges.specs.Edges.{Edges}
 
@@ -41,6 +43,11 @@ unfolding limits
 limits-equal n t =
     let q : t < t + 1 = omega arith in
     both-false-right _ _ (both-false-right _ _ (both-false-left _ _ (lt-leb _ _ q)))
+
+-- one leaf has groups 0 to 15
+sixteen : groups 1 ≤ 16
+unfolding groups
+sixteen = omega arith
 
 refused-1 : (n t l : ℕ) (bytes memory : List ℕ) → limits (shapeOf n t l) ≡ false → fresh n t l bytes memory .said ≡ no 1
 unfolding fresh refusal unless
@@ -63,7 +70,7 @@ module _ (bytes memory : List ℕ) (p : length bytes ≡ 128) (q : length memory
 
   -- the refusal of an issue to the one tracker
   issue-no : (access : Access) → refusal (issueTests (shapeOf 1 1 2) 0 access (begun (shapeOf 1 1 2) .trackers)) ≡ pick (ltb (access .group) 16) 0 6
-  unfolding refusal groups
+  unfolding refusal groups meetsNone all meets both
   issue-no access = refl
 
   last-group : (access : Access) → access .group ≡ 15 → issue (fresh 1 1 2 bytes memory .state) bytes memory 0 access .said ≡ ok
@@ -88,7 +95,7 @@ edges = record {
       (lengths-right (shapeOf 1 t (t + 1)) bytes memory p (q ∙ sym length-1));
   group-15 = λ bytes memory access g p q. last-group bytes memory p q access g;
   group-16 = λ bytes memory access g p q. past-group bytes memory p q access g;
-  reading-16 = λ memory q. reading.refused-6 1 memory 16 (inLimits-is 1 (omega arith) (omega arith)) (q ∙ sym length-1) (omega arith);
+  reading-16 = λ memory q. reading.refused-6 1 memory 16 (inLimits-is 1 (omega arith) (omega arith)) (q ∙ sym length-1) sixteen;
   length-1 = length-1;
   length-512 = length-512;
   length-513 = length-513;
@@ -98,4 +105,5 @@ edges = record {
   blocks-0 = blocks-0;
   blocks-7 = blocks-7;
   blocks-8 = blocks-8;
+  case-r = worked .case-r;
 }

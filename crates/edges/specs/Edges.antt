@@ -1,14 +1,17 @@
--- 01 "Cases at the edges", as one table.
+-- 01 "Cases at the edges", as one table; Case R as 02 has it.
 use mathlib.Core.Path.{_≡_}
 use mathlib.Core.List.{List, [], _∷_}
 use Prim.Native.Nat.{ℕ, _+_, _*_, _≤_}
-use lib.ListN.{length}
+use mathlib.Core.Bool.{true, false}
+use lib.ListN.{length, replicate}
 use Rattle.laws.specs.Bytes.{part}
 use Rattle.geometry.specs.TagMemory.{memoryLength}
 use Rattle.memory.specs.PlainReading.{plainReading}
 use Rattle.tracker.specs.declared.Access.{Access}
-use Rattle.tracker.specs.Answer.{ok, no}
+use Rattle.tracker.specs.Tracker.{readOf, writeOf}
+use Rattle.tracker.specs.Answer.{ok, moved, read, done, no}
 use Rattle.rules.specs.Calls.{fresh, issue}
+use Rattle.rules.specs.Run.{issues, steps, drains, kept, answers}
 use Rattle.image.specs.Encode.{version1, version2, Record, Sized, headOf, encode}
 
 pub record Edges : Type 0 where
@@ -38,3 +41,8 @@ pub record Edges : Type 0 where
   pub blocks-0 : (n : ℕ) (rs : List Record) → Sized rs → length rs ≡ 0 → length (encode version2 n rs) ≡ 512
   pub blocks-7 : (n : ℕ) (rs : List Record) → Sized rs → length rs ≡ 7 → length (encode version2 n rs) ≡ 1024
   pub blocks-8 : (n : ℕ) (rs : List Record) → Sized rs → length rs ≡ 8 → length (encode version2 n rs) ≡ 1536
+  -- "Case R is run": after line 1, over stale bytes
+  pub case-r : answers (kept (fresh 2 2 3 (replicate 192 7) (replicate 192 9)))
+      (issues 0 (writeOf false 17 10) ∷ issues 1 (writeOf false 17 0) ∷ steps 0 ∷ steps 1 ∷ steps 0 ∷ steps 0 ∷ steps 1 ∷ steps 1 ∷ steps 1
+      ∷ issues 0 (readOf true 17) ∷ steps 0 ∷ steps 0 ∷ drains ∷ [])
+      ≡ ok ∷ no 13 ∷ moved ∷ no 8 ∷ moved ∷ done 3 ∷ no 8 ∷ no 8 ∷ no 8 ∷ ok ∷ read 10 1 ∷ no 8 ∷ ok ∷ []

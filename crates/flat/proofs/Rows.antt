@@ -17,7 +17,7 @@ use Rattle.geometry.specs.TagMemory.{blockPlace}
 use Rattle.block.specs.Block.{blockOr0}
 use Rattle.block.proofs.Blocks.{blockOr0-fits}
 use Rattle.memory.specs.True.{blockAt}
-use Rattle.line.specs.Word.{used, blockOf, changed, heldBy, word}
+use Rattle.line.specs.Word.{used, blockOf, changed, heldBy, word, lineBlocks, marks}
 use Rattle.line.specs.Find.{lineOf}
 use Rattle.rules.specs.State.{Rows}
 use Rattle.rules.specs.Place.{lineBytes, rowsFit, placeLine, writtenBack, Brought, filled, withMemory, withLines, bringIn}
@@ -42,7 +42,7 @@ pub record Same (B l : ℕ) (r r' : Rows) : Type 0 where
 pub record Placing (B l : ℕ) (r : Rows) (i b : ℕ) (c : Bool) (y : List ℕ) : Type 0 where
   pub line-lt : i < l
   pub exists : b < B
-  pub small : B < 16777215
+  pub small : B < lineBlocks
   pub long : length y ≡ 64
   pub nobody : (j : ℕ) → Has (r .lines) j b → ⊥
   pub clean : c ≡ false → y ≡ blockAt (r .memory) b
@@ -50,7 +50,7 @@ pub record Placing (B l : ℕ) (r : Rows) (i b : ℕ) (c : Bool) (y : List ℕ) 
 -- line i, which has block b, gets the bytes y: the line bytes change there alone
 pub record Writing (B l : ℕ) (r : Rows) (i b : ℕ) (bytes' y : List ℕ) : Type 0 where
   pub has-it : Has (r .lines) i b
-  pub small : B < 16777215
+  pub small : B < lineBlocks
   pub long : length bytes' ≡ length (r .bytes)
   pub here : lineBytes bytes' i ≡ y
   pub there : (j : ℕ) → j < l → (j ≡ i → ⊥) → lineBytes bytes' j ≡ lineBytes (r .bytes) j
@@ -104,7 +104,7 @@ module _ {B l : ℕ} {r : Rows} (G : Good B l r) where
 
   -- placing: what was in the line is first written back
   module _ {i b : ℕ} {c : Bool} {y : List ℕ} (p : Placing B l r i b c y) where
-    fits-word : b < 16777215
+    fits-word : b < lineBlocks
     fits-word = omega (arith, p .small, p .exists)
 
     is-used : used (word b c 0) ≡ true
@@ -157,7 +157,7 @@ module _ {B l : ℕ} {r : Rows} (G : Good B l r) where
     h : Has (r .lines) i b
     h = w .has-it
 
-    b-small : b < 16777215
+    b-small : b < lineBlocks
     b-small = omega (arith, G .exists i b h, w .small)
 
     w-used : used (word b true 0) ≡ true
@@ -224,8 +224,8 @@ module _ {B l : ℕ} {r : Rows} (G : Good B l r) where
         (λ o. (o .1, λ q. o .0 (G .one j i b (subst (λ (z : ℕ). Has (r .lines) j z) q (o .1)) h))) (new-or-old G freeing j d h')
 
   -- line i, which has a block, names another holder, or none
-  module _ (i b k : ℕ) (h : Has (r .lines) i b) (small : B < 16777215) (kl : k < 128) where
-    m-small : blockOf (at (r .lines) i) < 16777215
+  module _ (i b k : ℕ) (h : Has (r .lines) i b) (small : B < lineBlocks) (kl : k < marks) where
+    m-small : blockOf (at (r .lines) i) < lineBlocks
     m-small = rw (h .is-block) (omega (arith, G .exists i b h))
 
     abbrev marked : List ℕ
@@ -266,7 +266,7 @@ pub record BringsIn (B l : ℕ) (r : Rows) (b : ℕ) (o : Brought) : Type 0 wher
   pub had : (j d : ℕ) → Has (o .rows .lines) j d → Has (r .lines) j d ⊎ (d ≡ b)
 
 module _ (shape : Shape) {B : ℕ} {H : ℕ → ℕ} (r : Rows) (b : ℕ) (G : Good B (shape .l) r) (v : Lined B (shape .l) (shape .t) H (r .lines)) (few : shape .t < shape .l) (fit : rowsFit (shape .l) (r .lines) (r .bytes) ≡ true)
-    (bl : b < B) (small : B < 16777215) where
+    (bl : b < B) (small : B < lineBlocks) where
   pub brings-in : BringsIn B (shape .l) r b (bringIn shape b r)
   brings-in = go (lt-or-ge (lineOf (r .lines) (shape .l) b) (shape .l))
     where

@@ -24,7 +24,7 @@ use Rattle.tracker.specs.declared.Phase.{Phase}
 use Rattle.tracker.specs.declared.Phase.the-variants.{Idle, Probe, Map, Leaf, Set, Clear}
 use Rattle.tracker.specs.declared.Tracker.{Tracker}
 use Rattle.tracker.specs.Answer.{Said, read, done, same}
-use Rattle.line.specs.Word.{blockOf, holder, held, word}
+use Rattle.line.specs.Word.{blockOf, holder, held, word, lineBlocks, marks}
 use Rattle.line.specs.Find.{lineOf}
 use Rattle.rules.specs.State.{Rows, trackerAt}
 use Rattle.rules.specs.Whole.{mapBlock, holds}
@@ -131,7 +131,7 @@ module _ (sit : Situation) (row : Row) (A : Agrees (sit .shape .n) (sit .shape .
   few : t < l
   few = omega (arith, l-least shape (sit .limits-ok))
 
-  small : blocks n < 16777215
+  small : blocks n < lineBlocks
   small = blocks-small shape (sit .limits-ok)
 
   value-ok : u .value < values
@@ -221,7 +221,7 @@ module _ (sit : Situation) (row : Row) (A : Agrees (sit .shape .n) (sit .shape .
 
   -- Map
   module _ (ph : u .phase ≡ Map) where
-    mark-fits : x + 1 < 128
+    mark-fits : x + 1 < marks
     mark-fits = omega (arith, t-most shape (sit .limits-ok))
 
     map-lined : (i j : ℕ) → j < n → Has (bringIn shape (mapBlock n (u .group)) r .rows .lines) i j → tagged row j ≡ true
@@ -385,21 +385,21 @@ module _ (sit : Situation) (row : Row) (A : Agrees (sit .shape .n) (sit .shape .
       in-j-still : Has (b .rows .lines) j (mapBlock n (u .group))
       in-j-still = has-same (r .lines) (b .rows .lines) j (mapBlock n (u .group)) (leaf-brings .keeps j (omega (arith, named-j))) in-j
 
-      zero-128 : 0 < 128
-      zero-128 = omega arith
+      zero-mark : 0 < marks
+      zero-mark = omega arith
 
       -- it ends where it is, the row as it was, and lets go
       let-go-here : Agrees n l (withLines r (letGo (r .lines) j)) (set ts x idle) row
-      let-go-here = moves-on (mark-same (A .good) j _ 0 in-j small zero-128)
-          (λ i d q hd. A .lined i d q (mark-had (A .good) j _ 0 in-j small zero-128 i d hd)) Leaf ph refl idle zero-ok tt
+      let-go-here = moves-on (mark-same (A .good) j _ 0 in-j small zero-mark)
+          (λ i d q hd. A .lined i d q (mark-had (A .good) j _ 0 in-j small zero-mark i d hd)) Leaf ph refl idle zero-ok tt
 
       module _ (tg : tagged row (leafOf (u .group)) ≡ true) where
         leaf-lined : (i d : ℕ) → d < n → Has (b .rows .lines) i d → tagged row d ≡ true
         leaf-lined i d q hd = ⊎-elim (λ o. A .lined i d q o) (λ e. rw e tg) (leaf-in .had i d hd)
 
         let-go-there : Agrees n l (withLines (b .rows) (letGo (b .rows .lines) j)) (set ts x idle) row
-        let-go-there = moves-on (same-then (leaf-in .rows) (mark-same (leaf-in .rows .good) j _ 0 in-j-still small zero-128))
-            (λ i d q hd. leaf-lined i d q (mark-had (leaf-in .rows .good) j _ 0 in-j-still small zero-128 i d hd)) Leaf ph refl idle zero-ok tt
+        let-go-there = moves-on (same-then (leaf-in .rows) (mark-same (leaf-in .rows .good) j _ 0 in-j-still small zero-mark))
+            (λ i d q hd. leaf-lined i d q (mark-had (leaf-in .rows .good) j _ 0 in-j-still small zero-mark i d hd)) Leaf ph refl idle zero-ok tt
 
         group-is : groupIn (b .rows .bytes) (b .line) (u .group) ≡ row (u .group)
         group-is = group-read (leaf-in .rows) (b .line) (leaf-brings .has-it) tg
@@ -475,7 +475,7 @@ module _ (sit : Situation) (row : Row) (A : Agrees (sit .shape .n) (sit .shape .
           w-j = written-still (leaf-in .rows .good) put-write j _ apart in-j-still
 
           w-mark : Same (blocks n) l written (withLines written (letGo (written .lines) j))
-          w-mark = mark-same w-good j _ 0 w-j small zero-128
+          w-mark = mark-same w-good j _ 0 w-j small zero-mark
 
           stays : allZero withV ≡ false → Plays n l x ts row u (course row found hd u Leaf)
               (ends (done (turnsOf u)) (b .shape) (withLines written (letGo (written .lines) j)))
@@ -490,7 +490,7 @@ module _ (sit : Situation) (row : Row) (A : Agrees (sit .shape .n) (sit .shape .
               ∙ written-here (leaf-in .rows .good) put-write)))
               (λ i d q hd. still-tagged on d (leaf-lined tg i d q
               (written-had (leaf-in .rows .good) put-write i d
-              (mark-had w-good j _ 0 w-j small zero-128 i d hd))) (ℕ-discrete d (leafOf (u .group))))
+              (mark-had w-good j _ 0 w-j small zero-mark i d hd))) (ℕ-discrete d (leafOf (u .group))))
               (inr (on ∙ sym tg))
               tt))
             where

@@ -5,7 +5,7 @@ use mathlib.Core.List.{List, [], _∷_}
 use lib.ListN.{replicate}
 use Rattle.geometry.specs.TagMemory.{leafOf, byteOf, groups, mapBlockOf, mapByteOf, mapBitOf, mapBlocks, inLimits}
 use Rattle.laws.specs.Refusal.{refusal, unless}
-use Rattle.laws.specs.Choice.{both, implies, no}
+use Rattle.laws.specs.Choice.{both, either, implies, no}
 use Rattle.laws.specs.Bytes.{part, splice, fits, putW, value, bytes, numberAt}
 use Rattle.laws.specs.Scan.{first, all}
 use Rattle.laws.specs.Bits.{bitOf, withBit}
@@ -20,7 +20,7 @@ use Rattle.rules.specs.State.{lengthsRight}
 use Rattle.rules.specs.Whole.{limits, holds, lineWhole, trackerWhole, whole}
 use Rattle.rules.specs.Place.{rowsFit, placeLine, placeHand, writtenBack, placeMemory, bringIn, drained}
 use Rattle.rules.specs.Step.{probe, onMap, map, leafRead, putIn, writeUnder1, writeUnder0, leafWrite, finish, inLine, fit, turnOf}
-use Rattle.rules.specs.Calls.{fresh, issueNo, issue, stepNo, step, allIdle, drainNo, drain}
+use Rattle.rules.specs.Calls.{fresh, meets, meetsNone, issueNo, issue, stepNo, step, allIdle, drainNo, drain}
 use Rattle.rules.specs.Run.{Call, issues, steps, drains, Kept, kept, does, answers, ended}
 use Rattle.flat.specs.Flat.{tagged, someHolds, flatIssue, flatStep, flatDrain, flatDoes, flatAnswers, flatEnded}
 use Rattle.flat.specs.Demand.{found, given, flatOf}
@@ -29,10 +29,10 @@ use Rattle.flat.specs.Demand.{found, given, flatOf}
 abbrev begun : Kept
 begun = kept (fresh 4 2 3 (replicate 192 7) (replicate 320 9))
 
--- A read sees a write that is not yet done; the next write waits for it; a third leaf finds no free line, and the first, changed, is written back;
+-- A read meets the leaf of a write that is not yet done; the next write waits for it; a third leaf finds no free line, and the first, changed, is written back;
 -- it is brought in again and read; a leaf is emptied; a drain.
 abbrev calls : List Call
-calls = issues 0 (writeOf false 17 10) ∷ issues 1 (readOf true 17) ∷ steps 0 ∷ steps 0 ∷ steps 1
+calls = issues 0 (writeOf false 17 10) ∷ issues 1 (readOf true 18) ∷ steps 0 ∷ steps 0 ∷ steps 1
     ∷ issues 1 (writeOf false 33 11) ∷ steps 1 ∷ steps 0 ∷ steps 1 ∷ steps 1
     ∷ issues 0 (writeOf true 49 12) ∷ steps 0 ∷ steps 0 ∷ steps 1 ∷ steps 0 ∷ steps 0 ∷ steps 0
     ∷ issues 1 (readOf false 17) ∷ steps 1 ∷ steps 1
@@ -40,7 +40,7 @@ calls = issues 0 (writeOf false 17 10) ∷ issues 1 (readOf true 17) ∷ steps 0
     ∷ drains ∷ []
 
 abbrev said : List Said
-said = ok ∷ ok ∷ moved ∷ moved ∷ read 10 1
+said = ok ∷ ok ∷ moved ∷ moved ∷ read 0 1
     ∷ ok ∷ wait ∷ done 3 ∷ moved ∷ moved
     ∷ ok ∷ moved ∷ wait ∷ done 4 ∷ moved ∷ moved ∷ done 5
     ∷ ok ∷ moved ∷ read 10 2
@@ -59,7 +59,7 @@ pub record Worked : Type 0 where
   pub row-emptied : flatEnded (flatOf begun) (given begun calls) .row 33 ≡ 0
 
 pub worked : Worked
-unfolding both implies no refusal unless leafOf byteOf groups mapBlockOf mapByteOf mapBitOf mapBlocks part splice fits putW value bytes numberAt first all bitOf withBit inLimits bitAt putBit allZero blockOr0 leafBit plainGroup trueAt isTrue clearedMap used blockOf changed holder held has word heldBy cleaned lineOf lowestFree looseFrom victim after lengthsRight limits holds lineWhole trackerWhole whole rowsFit placeLine placeHand writtenBack placeMemory bringIn drained probe onMap map leafRead putIn writeUnder1 writeUnder0 leafWrite finish inLine fit turnOf fresh issueNo issue stepNo step allIdle drainNo drain does answers ended tagged someHolds flatIssue flatStep flatDrain flatDoes flatAnswers flatEnded found given
+unfolding both either implies no refusal unless leafOf byteOf groups mapBlockOf mapByteOf mapBitOf mapBlocks part splice fits putW value bytes numberAt first all bitOf withBit inLimits bitAt putBit allZero blockOr0 leafBit plainGroup trueAt isTrue clearedMap used blockOf changed holder held has word heldBy cleaned lineOf lowestFree looseFrom victim after lengthsRight limits holds lineWhole trackerWhole whole rowsFit placeLine placeHand writtenBack placeMemory bringIn drained probe onMap map leafRead putIn writeUnder1 writeUnder0 leafWrite finish inLine fit turnOf fresh meets meetsNone issueNo issue stepNo step allIdle drainNo drain does answers ended tagged someHolds flatIssue flatStep flatDrain flatDoes flatAnswers flatEnded found given
 worked = record {
   accepted = refl;
   answered = refl;

@@ -142,7 +142,7 @@ pub record Reply : Type 0 where
 abbrev pub refuse : ℕ → Flat → Reply
 refuse c f = record { said = Said.no c; flat = f; effect = [] }
 
--- "tracker number T or more" 5, "group 16n or more" 6, "issue to a busy tracker" 7
+-- "tracker number T or more" 5, "group 16n or more" 6, "issue to a busy tracker" 7, two accesses to one group 13
 unfoldable pub flatIssue : Flat → ℕ → Access → Reply
 flatIssue f x access =
     unless (refusal (issueTests (f .shape) x access (f .trackers)))

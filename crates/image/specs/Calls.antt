@@ -3,28 +3,29 @@ use mathlib.Core.List.{List, [], _∷_, _++_}
 use Prim.Native.Nat.{ℕ, zero, suc, _+_}
 use lib.ListN.{length, getD, replicate}
 use lib.Dec.{eqb, leb}
-use Rattle.laws.specs.Choice.{pick}
+use Rattle.laws.specs.Refusal.{Tests, refusal, unless}
 use Rattle.laws.specs.Bytes.{splice, putW}
-use Rattle.geometry.specs.TagMemory.{inLimits, memoryLength, blockPlace, mapPlace, mapBitOf}
+use Rattle.geometry.specs.TagMemory.{memoryLength, blockPlace, mapPlace, mapBitOf}
 use Rattle.block.specs.Block.{putBit}
+use Rattle.memory.specs.PlainReading.{sized}
 use Rattle.memory.specs.True.{isTrue}
 use Rattle.image.specs.Encode.{Record, none, imageOf}
 use Rattle.image.specs.Test.{leavesIn, recordedIn, recordAt, imageTest}
 
--- "image writing 1, 2, 3, 9", in that order; 0 if none. `room` is the length of the lent output.
+-- "image writing 1, 2, 3, 9". `room` is the length of the lent output.
+abbrev pub writingTests : ℕ → List ℕ → ℕ → Tests
+writingTests n mem room = sized n mem ++ (isTrue n mem, 3) ∷ (leb (length (imageOf n mem)) room, 9) ∷ []
+
 unfoldable pub writingRefusal : ℕ → List ℕ → ℕ → ℕ
-writingRefusal n mem room =
-    pick (inLimits n)
-    (pick (eqb (length mem) (memoryLength n)) (pick (isTrue n mem) (pick (leb (length (imageOf n mem)) room) 0 9) 3) 2)
-    1
+writingRefusal n mem room = refusal (writingTests n mem room)
 
 -- "Writing gives the image's length", or 4,294,967,296 plus the refusal
 unfoldable pub writingAnswer : ℕ → List ℕ → ℕ → ℕ
-writingAnswer n mem room = pick (eqb (writingRefusal n mem room) 0) (length (imageOf n mem)) (4294967296 + writingRefusal n mem room)
+writingAnswer n mem room = unless (writingRefusal n mem room) (length (imageOf n mem)) (λ c. 4294967296 + c)
 
 -- ".. and leaves output past it unchanged"; refused, "all lent bytes stay as they came"
 unfoldable pub written : ℕ → List ℕ → List ℕ → List ℕ
-written n mem output = pick (eqb (writingRefusal n mem (length output)) 0) (splice output 0 (imageOf n mem)) output
+written n mem output = unless (writingRefusal n mem (length output)) (splice output 0 (imageOf n mem)) (λ c. output)
 
 -- the first p records by a rule
 unfoldable pub recordsTo : (ℕ → Record) → ℕ → List Record
@@ -47,15 +48,17 @@ filled n rs (suc p) = putRecord n (filled n rs p) (getD rs p none)
 abbrev pub memoryOf : ℕ → List Record → List ℕ
 memoryOf n rs = filled n rs (length rs)
 
--- "restoring 10, 11, 2", in that order; 0 if none. `room` is the length of the lent memory.
+-- "restoring 10, 11, 2": the image test names 10 or 11. `room` is the length of the lent memory.
+abbrev pub restoringTests : List ℕ → ℕ → Tests
+restoringTests image room = (eqb (imageTest image) 0, imageTest image) ∷ (eqb room (memoryLength (leavesIn image)), 2) ∷ []
+
 unfoldable pub restoringRefusal : List ℕ → ℕ → ℕ
-restoringRefusal image room =
-    pick (eqb (imageTest image) 0) (pick (eqb room (memoryLength (leavesIn image))) 0 2) (imageTest image)
+restoringRefusal image room = refusal (restoringTests image room)
 
 -- the lent memory after restoring; refused, it stays as it came
 unfoldable pub restored : List ℕ → List ℕ → List ℕ
-restored image mem = pick (eqb (restoringRefusal image (length mem)) 0) (memoryOf (leavesIn image) (recordsIn image)) mem
+restored image mem = unless (restoringRefusal image (length mem)) (memoryOf (leavesIn image) (recordsIn image)) (λ c. mem)
 
 -- "opening a reader 10, 11": the image test names the refusal; "A refused reader has an empty image"
 unfoldable pub openedImage : List ℕ → List ℕ
-openedImage image = pick (eqb (imageTest image) 0) image []
+openedImage image = unless (imageTest image) image (λ c. [])

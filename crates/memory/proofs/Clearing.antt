@@ -82,7 +82,6 @@ module _ (n : ℕ) (m : List ℕ) where
   clearedMap-group g = plainGroup-0 n (clearedMap n m) g (no-bit (leafOf g))
 
   pub clearedMap-reading : (g : ℕ) → inLimits n ≡ true → length m ≡ memoryLength n → g < groups n → plainReading n (clearedMap n m) g ≡ 0
-  unfolding groups
   clearedMap-reading g h l q = accepted n (clearedMap n m) g h (length-clearedMap ∙ l) q ∙ clearedMap-group g
 
   -- tag by tag

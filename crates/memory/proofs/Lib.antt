@@ -1,4 +1,5 @@
 pub mod Parts
+pub mod Sized
 pub mod Reading
 pub mod Truth
 pub mod Clearing

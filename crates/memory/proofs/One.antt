@@ -3,8 +3,9 @@ use mathlib.Core.Path.{_≡_}
 use mathlib.Core.Bool.{Bool}
 use mathlib.Core.List.{List}
 use Prim.Native.Nat.{ℕ}
+use Rattle.laws.specs.Refusal.{refusal}
 use Rattle.geometry.proofs.One.{one}
-use Rattle.memory.specs.PlainReading.{leafBit, plainGroup, plainReading}
+use Rattle.memory.specs.PlainReading.{leafBit, plainGroup, sized, plainReading}
 use Rattle.memory.specs.True.{isTrue, clearedMap}
 
 module _ (n : ℕ) (m : List ℕ) where
@@ -13,6 +14,9 @@ module _ (n : ℕ) (m : List ℕ) where
 
   pub plain-group-one : (g : ℕ) {r s : ℕ} → r ≡ plainGroup n m g → s ≡ plainGroup n m g → r ≡ s
   plain-group-one g = one
+
+  pub misfit-one : {r s : ℕ} → r ≡ refusal (sized n m) → s ≡ refusal (sized n m) → r ≡ s
+  misfit-one = one
 
   pub plain-reading-one : (g : ℕ) {r s : ℕ} → r ≡ plainReading n m g → s ≡ plainReading n m g → r ≡ s
   plain-reading-one g = one

@@ -4,8 +4,9 @@ use geometry::Geometry;
 ghost use mathlib.Core.Path.{_≡_};
 ghost use Prim.Native.Nat.{_+_, _*_, _≤_};
 ghost use Rattle.laws.specs.Bytes.{part};
+ghost use Rattle.laws.specs.Refusal.{refusal};
 ghost use Rattle.block.specs.Block.{allZero};
-ghost use Rattle.memory.specs.PlainReading.{leafBit, plainGroup, plainReading};
+ghost use Rattle.memory.specs.PlainReading.{leafBit, plainGroup, sized, plainReading};
 ghost use Rattle.memory.specs.True.{trueAt, trueByte, isTrue, clearedMap};
 
 // "4,294,967,296 plus the refusal"
@@ -29,17 +30,28 @@ pub fn plain_group(n: u32, memory: &[u8], g: u32) -> u32
     block::group_at(memory, Geometry::group_place(g))
 }
 
+// Refusals 1 and 2, which come first in each call on a lent memory; 0 for neither.
+pub fn misfit(n: u64, memory: &[u8]) -> u8
+    ensures { λ r. ⌜ r ≡ refusal (sized n (now (memory .entry))) ⌝ }
+{
+    if !Geometry::in_limits(n) {
+        return 1;
+    }
+    if memory.len() as u64 != Geometry::memory_length(n as u32) {
+        return 2;
+    }
+    0
+}
+
 // Group g, or REFUSED plus the refusal: 1 for n, 2 for the length, 6 for the group.
 pub fn plain_reading(n: u64, memory: &[u8], g: u64) -> u64
     ensures { λ r. ⌜ r ≡ plainReading n (now (memory .entry)) g ⌝ }
 {
-    if !Geometry::in_limits(n) {
-        return REFUSED + 1;
+    let c = misfit(n, memory);
+    if 0 < c {
+        return REFUSED + c as u64;
     }
-    if memory.len() as u64 != Geometry::memory_length(n as u32) {
-        return REFUSED + 2;
-    }
-    if Geometry::GROUPS as u64 * n <= g {
+    if Geometry::groups(n as u32) <= g {
         return REFUSED + 6;
     }
     plain_group(n as u32, memory, g as u32) as u64

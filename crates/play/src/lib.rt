@@ -50,7 +50,7 @@ pub struct Refused {
     pub written: usize,
 }
 
-// Issue to tracker x: 5, 6, 7.
+// Issue to tracker x: 5, 6, 7, 13.
 fn issue(
     shape: Shape,
     x: u32,

@@ -2,8 +2,10 @@
 use mathlib.Core.Path.{_≡_}
 use mathlib.Core.List.{List, []}
 use Prim.Native.Nat.{ℕ, _+_, _/_, _%_, _≤_, _<_}
-use borrow.Author.Tests.{eq-eqb, ne-eqb, le-leb, lt-leb}
+use native.Mathlib.Omega.{arith}
+use borrow.Author.Tests.{le-leb, lt-leb}
 use Rattle.laws.specs.Choice.{either}
+use Rattle.laws.proofs.Refusal.{unless-0, unless-no}
 use Rattle.image.specs.Test.{wholeBlocks, imageBlock, countOf, imageTest}
 use Rattle.image.specs.Calls.{openedImage}
 use Rattle.reader.specs.Read.{atEnd, theEnd, theRecord, readingAt}
@@ -23,8 +25,8 @@ module _ (image : List ℕ) (p : ℕ) where
 
 pub opened-is : (image : List ℕ) → imageTest image ≡ 0 → openedImage image ≡ image
 unfolding openedImage
-opened-is image h = rw (eq-eqb (imageTest image) 0 h)
+opened-is image h = unless-0 image (λ c. []) h
 
 pub opened-not : (image : List ℕ) → (imageTest image ≡ 0 → ⊥) → openedImage image ≡ []
 unfolding openedImage
-opened-not image h = rw (ne-eqb (imageTest image) 0 h)
+opened-not image h = unless-no {c = imageTest image} image (λ c. []) (omega (arith, h))

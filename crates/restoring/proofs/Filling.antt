@@ -1,12 +1,15 @@
 -- Laws of restoring: one record more, the length of what is filled, and the ways out of the call.
 use mathlib.Core.Path.{_≡_, ap, sym, _∙_}
-use mathlib.Core.List.{List}
+use mathlib.Core.List.{List, [], _∷_}
 use Prim.Native.Nat.{ℕ, _+_, _*_, _<_}
 use native.Mathlib.Numerals.{add-one}
 use native.Mathlib.Omega.{arith}
+use lib.Dec.{eqb}
 use lib.ListN.{length, replicate, length-replicate}
 use borrow.Author.Tests.{eq-eqb, ne-eqb}
 use Rattle.laws.specs.Bytes.{putW}
+use Rattle.laws.specs.Refusal.{refusal}
+use Rattle.laws.proofs.Refusal.{refusal-0, refusal-first, unless-0, unless-no}
 use Rattle.laws.proofs.Put.{putW-fits}
 use Rattle.geometry.specs.TagMemory.{memoryLength, blockPlace, mapPlace, mapBitOf}
 use Rattle.block.specs.Block.{blockOr0, putBit}
@@ -14,7 +17,7 @@ use Rattle.block.proofs.Blocks.{blockOr0-fits}
 use Rattle.laws.proofs.Writes.{splice-end}
 use Rattle.image.specs.Encode.{Record}
 use Rattle.image.specs.Test.{leavesIn, recordedIn, recordIn, recordAt, imageTest}
-use Rattle.image.specs.Calls.{putRecord, filled, recordsIn, memoryOf, restoringRefusal, restored}
+use Rattle.image.specs.Calls.{putRecord, filled, recordsIn, memoryOf, restoringTests, restoringRefusal, restored}
 use Rattle.image.proofs.Records.{length-recordsTo, recordsTo-at}
 
 pub put-record-law : (n : ℕ) (mem row : List ℕ) (i : ℕ) → length row ≡ 512 → i < 7
@@ -38,17 +41,26 @@ filled-all n image p e = ap (filled n (recordsIn image)) (e ∙ sym (length-reco
 
 -- the ways out
 module _ (image mem : List ℕ) where
+  refused : (c : ℕ) → restoringRefusal image (length mem) ≡ c → 0 < c → (c ≡ restoringRefusal image (length mem)) × (mem ≡ restored image mem)
+  unfolding restored
+  refused c e h = (sym e, sym (unless-no (memoryOf (leavesIn image) (recordsIn image)) (λ c. mem) (omega (arith, e))))
+
   pub untested : (imageTest image ≡ 0 → ⊥)
       → (imageTest image ≡ restoringRefusal image (length mem)) × (mem ≡ restored image mem)
-  unfolding restored restoringRefusal
-  untested h = (rw (ne-eqb (imageTest image) 0 h), rw (ne-eqb (imageTest image) 0 h, ne-eqb (imageTest image) 0 h))
+  unfolding restoringRefusal
+  untested h = refused (imageTest image) (refusal-first [] (eqb (imageTest image) 0) (imageTest image) _ tt (ne-eqb (imageTest image) 0 h)) (omega (arith, h))
 
   pub unfit : imageTest image ≡ 0 → (length mem ≡ memoryLength (leavesIn image) → ⊥)
       → (2 ≡ restoringRefusal image (length mem)) × (mem ≡ restored image mem)
-  unfolding restored restoringRefusal
-  unfit t h = let e = ne-eqb (length mem) (memoryLength (leavesIn image)) h in (rw (eq-eqb _ _ t, e), rw (eq-eqb _ _ t, e))
+  unfolding restoringRefusal
+  unfit t h =
+      refused 2
+      (refusal-first ((eqb (imageTest image) 0, imageTest image) ∷ []) (eqb (length mem) (memoryLength (leavesIn image))) 2 [] (eq-eqb _ _ t, tt) (ne-eqb (length mem) (memoryLength (leavesIn image)) h))
+      (omega arith)
 
   pub filled-in : imageTest image ≡ 0 → length mem ≡ memoryLength (leavesIn image)
       → (0 ≡ restoringRefusal image (length mem)) × (memoryOf (leavesIn image) (recordsIn image) ≡ restored image mem)
   unfolding restored restoringRefusal
-  filled-in t h = let e = eq-eqb (length mem) (memoryLength (leavesIn image)) h in (rw (eq-eqb _ _ t, e), rw (eq-eqb _ _ t, e))
+  filled-in t h =
+      let z : refusal (restoringTests image (length mem)) ≡ 0 = refusal-0 (restoringTests image (length mem)) (eq-eqb _ _ t, (eq-eqb (length mem) (memoryLength (leavesIn image)) h, tt)) in
+      (sym z, sym (unless-0 _ _ z))

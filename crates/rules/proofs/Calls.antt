@@ -24,7 +24,7 @@ use Rattle.rules.specs.State.{State, Rows, trackerAt, lengthsRight}
 use Rattle.rules.specs.Whole.{phaseWhole, whole}
 use Rattle.rules.specs.Place.{rowsFit, drained}
 use Rattle.rules.specs.Step.{Turned, fit, byPhase, turnOf}
-use Rattle.rules.specs.Calls.{Out, refused, accepted, withTracker, withLines, stateTests, issueTests, issueNo, issue, stepped, stepTests, stepNo, step, allIdle, drainTests, drainNo, drain}
+use Rattle.rules.specs.Calls.{Out, refused, accepted, withTracker, withLines, stateTests, meetsNone, issueTests, issueNo, issue, stepped, stepTests, stepNo, step, allIdle, drainTests, drainNo, drain}
 use Rattle.line.proofs.Words.{blockOf-cleaned, holder-cleaned, used-cleaned}
 use Rattle.rules.proofs.Lined.{at, Lined, loose-lined, same-holds}
 use Rattle.rules.proofs.Whole.{heldOf, heldOf-no, Whole, whole-facts, facts-whole, inLimits-of, limits-hand, t-most, l-least}
@@ -168,8 +168,8 @@ module _ (s : State) (bytes memory : List ℕ) (w : whole s ≡ true) (len : len
       issue-accepted = unless-0 _ _ (issueNo-is x a ∙ free)
 
       -- where an issue is not refused
-      pub issue-free : (x < s .shape .t) × (a .group < groups (s .shape .n)) × (isIdle (trackerAt (s .trackers) x) ≡ true)
-      issue-free = let h = refusal-hold (issueTests (s .shape) x a (s .trackers)) refl free in (ltb-true _ _ (h .0), ltb-true _ _ (h .1 .0), h .1 .1 .0)
+      pub issue-free : (x < s .shape .t) × (a .group < groups (s .shape .n)) × (isIdle (trackerAt (s .trackers) x) ≡ true) × (meetsNone (s .shape .t) a (s .trackers) ≡ true)
+      issue-free = let h = refusal-hold (issueTests (s .shape) x a (s .trackers)) refl free in (ltb-true _ _ (h .0), ltb-true _ _ (h .1 .0), h .1 .1 .0, h .1 .1 .1 .0)
 
       first-free : (b : Bool) → holdsAt (firstPhase b) ≡ false
       first-free true = refl

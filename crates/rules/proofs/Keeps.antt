@@ -26,7 +26,7 @@ use Rattle.tracker.specs.declared.Phase.the-variants.{Idle, Probe, Map, Leaf, S
 use Rattle.tracker.specs.declared.Tracker.{Tracker}
 use Rattle.tracker.specs.Tracker.{idle, isIdle, isIdleAt, holdsAt, goesTo, counted}
 use Rattle.tracker.specs.Answer.{Said, ok, wait, moved, read, done, same, no as refusal}
-use Rattle.line.specs.Word.{used, blockOf, holder, held, heldBy, word}
+use Rattle.line.specs.Word.{used, blockOf, holder, held, heldBy, word, lineBlocks, marks}
 use Rattle.line.specs.Find.{lineOf}
 use Rattle.rules.specs.State.{Rows, trackerAt}
 use Rattle.rules.specs.Whole.{limits, mapBlock, phaseWhole}
@@ -101,7 +101,7 @@ putBit-length m a k v = go (ltb k 8)
     go false = refl
 
 module _ (shape : Shape) (lim : limits shape ≡ true) where
-  pub blocks-small : blocks (shape .n) < 16777215
+  pub blocks-small : blocks (shape .n) < lineBlocks
   blocks-small = omega (arith, n-most shape lim, mapBlocks-most (shape .n))
 
   pub leaf-lt : (g : ℕ) → g < groups (shape .n) → leafOf g < shape .n
@@ -206,15 +206,15 @@ module _ (sit : Situation) where
   stays : {ls : List ℕ} → holdsAt (u .phase) ≡ true → (u' : Tracker) → holdsAt (u' .phase) ≡ true → u' .group ≡ u .group → Lined (blocks n) l t (heldOf n ts) ls → Lined (blocks n) l t (heldOf n (set ts x u')) ls
   stays h u' h' e w = same-holds w (by-case u' (now-held u' h' ∙ ap (λ (g : ℕ). suc (mapBlock n g)) e ∙ sym (was-held h)))
 
-  small : blocks n < 16777215
+  small : blocks n < lineBlocks
   small = blocks-small shape (sit .limits-ok)
 
   -- a tracker comes to hold its map block, which is in line i
   comes-to-hold : {ls : List ℕ} (i : ℕ) → Lined (blocks n) l t (heldOf n ts) ls → Has ls i (mapBlock n (u .group)) → holder (at ls i) ≡ 0 → holdsAt (u .phase) ≡ false
       → Lined (blocks n) l t (heldOf n (set ts x (goesTo u Leaf))) (held-by ls i x)
   comes-to-hold {ls} i w h z f =
-      let bl : blockOf (at ls i) < 16777215 = rw (h .is-block) (omega (arith, small, w .exists i _ h)) in
-      let x1 : x + 1 < 128 = omega (arith, t-most shape (sit .limits-ok)) in
+      let bl : blockOf (at ls i) < lineBlocks = rw (h .is-block) (omega (arith, small, w .exists i _ h)) in
+      let x1 : x + 1 < marks = omega (arith, t-most shape (sit .limits-ok)) in
       held-lined w i (heldBy (at ls i) (x + 1)) (low w i _ h) (heldOf n (set ts x (goesTo u Leaf))) x (sit .x-lt) (λ y q. heldOf-other n ts x y (goesTo u Leaf) q)
       (mapBlock n (u .group)) h (used-heldBy (at ls i) (x + 1) bl x1) (blockOf-heldBy (at ls i) (x + 1) bl x1 ∙ h .is-block) z (holder-heldBy (at ls i) (x + 1) bl x1)
       (was-free f) (now-held (goesTo u Leaf) refl)
@@ -230,7 +230,7 @@ module _ (sit : Situation) where
   lets-go-word : {ls : List ℕ} (j : ℕ) → Lined (blocks n) l t (heldOf n ts) ls → Has ls j (mapBlock n (u .group)) → holder (at ls j) ≡ x + 1
       → Lined (blocks n) l t (heldOf n (set ts x idle)) (letGo ls j)
   lets-go-word {ls} j w h z =
-      let bl : blockOf (at ls j) < 16777215 = rw (h .is-block) (omega (arith, small, w .exists j _ h)) in
+      let bl : blockOf (at ls j) < lineBlocks = rw (h .is-block) (omega (arith, small, w .exists j _ h)) in
       lets-go j (heldBy (at ls j) 0) w h z (used-heldBy (at ls j) 0 bl (omega arith)) (blockOf-heldBy (at ls j) 0 bl (omega arith) ∙ h .is-block) (holder-heldBy (at ls j) 0 bl (omega arith))
 
   idle-tracked : Tracked n t (set ts x idle)
@@ -490,7 +490,7 @@ module _ (sit : Situation) where
     unfolding finish
     keeps-finish bit =
         let m = mapBlock n (u .group) in
-        let ml : m < 16777215 = omega (arith, small, sit .lined .exists j m j-has) in
+        let ml : m < lineBlocks = omega (arith, small, sit .lined .exists j m j-has) in
         record {
           says = refl;
           shaped = unmoved (sit .hand-lt);

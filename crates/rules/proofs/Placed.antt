@@ -19,7 +19,7 @@ use Rattle.geometry.specs.declared.Shape.{Shape}
 use Rattle.geometry.specs.Shape.{atHand}
 use Rattle.geometry.specs.TagMemory.{blockPlace}
 use Rattle.block.specs.Block.{blockOr0}
-use Rattle.line.specs.Word.{used, blockOf, changed, holder, held, word}
+use Rattle.line.specs.Word.{used, blockOf, changed, holder, held, word, lineBlocks}
 use Rattle.line.specs.Find.{lineOf, lowestFree, looseFrom, victim, after}
 use Rattle.rules.specs.State.{Rows}
 use Rattle.rules.specs.Place.{lineBytes, rowsFit, placeLine, placeHand, writtenBack, placeMemory, Brought, filled, withMemory, bringIn}
@@ -148,8 +148,8 @@ blockOr0-length m a = ⊎-elim (λ (q : length m < a + 64). rw (lt-leb _ _ q) (l
 
 -- block b goes into line i, which nobody holds and which has it already or no other line does
 module _ {B l t : ℕ} {H : ℕ → ℕ} {lines : List ℕ} (v : Lined B l t H lines) (i b : ℕ) (il : i < l) (z : holder (at lines i) ≡ 0)
-    (bl : b < B) (small : B < 16777215) (alone : (j : ℕ) → (j ≡ i → ⊥) → Has lines j b → ⊥) (c : Bool) where
-  fits-word : b < 16777215
+    (bl : b < B) (small : B < lineBlocks) (alone : (j : ℕ) → (j ≡ i → ⊥) → Has lines j b → ⊥) (c : Bool) where
+  fits-word : b < lineBlocks
   fits-word = omega arith
 
   pub fill-lined : Lined B l t H (set lines i (word b c 0))
@@ -209,7 +209,7 @@ pub record Brings (shape : Shape) (B : ℕ) (H : ℕ → ℕ) (r : Rows) (b : �
   pub memory-long : length (o .rows .memory) ≡ length (r .memory)
 
 module _ (shape : Shape) {B : ℕ} {H : ℕ → ℕ} (r : Rows) (b : ℕ) (v : Lined B (shape .l) (shape .t) H (r .lines)) (few : shape .t < shape .l) (fit : rowsFit (shape .l) (r .lines) (r .bytes) ≡ true)
-    (hl : shape .hand < shape .l) (bl : b < B) (small : B < 16777215) where
+    (hl : shape .hand < shape .l) (bl : b < B) (small : B < lineBlocks) where
   pub brings : Brings shape B H r b (bringIn shape b r)
   brings = go (lt-or-ge (lineOf (r .lines) (shape .l) b) (shape .l))
     where

@@ -1,4 +1,4 @@
--- Case R of 01 and other runs that meet each branch of a step, computed through the rules on real bytes: a wrong rule fails at a value.
+-- Case R of 01, as 02 has it, and other runs that meet each branch of a step, computed through the rules on real bytes: a wrong rule fails at a value.
 use mathlib.Core.Path.{_≡_, refl}
 use mathlib.Core.Bool.{true, false}
 use mathlib.Core.List.{List, [], _∷_, _++_}
@@ -6,7 +6,7 @@ use Prim.Native.Nat.{ℕ}
 use lib.ListN.{replicate}
 use Rattle.geometry.specs.TagMemory.{leafOf, byteOf, groups, mapBlockOf, mapByteOf, mapBitOf, mapBlocks, inLimits}
 use Rattle.laws.specs.Refusal.{refusal, unless}
-use Rattle.laws.specs.Choice.{both, implies, no}
+use Rattle.laws.specs.Choice.{both, either, implies, no}
 use Rattle.laws.specs.Bytes.{part, splice, fits, putW, value, bytes, numberAt}
 use Rattle.laws.specs.Scan.{first, all}
 use Rattle.laws.specs.Bits.{bitOf, withBit}
@@ -21,7 +21,7 @@ use Rattle.rules.specs.State.{lengthsRight}
 use Rattle.rules.specs.Whole.{limits, holds, lineWhole, trackerWhole, whole}
 use Rattle.rules.specs.Place.{rowsFit, placeLine, placeHand, writtenBack, placeMemory, bringIn, drained}
 use Rattle.rules.specs.Step.{probe, onMap, map, leafRead, putIn, writeUnder1, writeUnder0, leafWrite, finish, inLine, fit, turnOf}
-use Rattle.rules.specs.Calls.{fresh, opened, issueNo, issue, stepNo, step, allIdle, drainNo, drain, showNo, shownBit, show}
+use Rattle.rules.specs.Calls.{fresh, opened, meets, meetsNone, issueNo, issue, stepNo, step, allIdle, drainNo, drain, showNo, shownBit, show}
 use Rattle.rules.specs.Run.{Call, issues, steps, drains, lends, Kept, kept, does, answers, ended}
 
 -- a fresh memory of n leaves over stale bytes, two trackers, three lines
@@ -43,21 +43,26 @@ pub record Worked : Type 0 where
   pub case-r : answers two-leaves
       (issues 0 (writeOf false 17 10) ∷ issues 1 (writeOf false 17 0) ∷ steps 0 ∷ steps 1 ∷ steps 0 ∷ steps 0 ∷ steps 1 ∷ steps 1 ∷ steps 1
       ∷ issues 0 (readOf true 17) ∷ steps 0 ∷ steps 0 ∷ drains ∷ [])
-      ≡ ok ∷ ok ∷ moved ∷ wait ∷ moved ∷ done 3 ∷ moved ∷ moved ∷ done 4 ∷ ok ∷ moved ∷ read 0 2 ∷ ok ∷ []
+      ≡ ok ∷ says-no 13 ∷ moved ∷ says-no 8 ∷ moved ∷ done 3 ∷ says-no 8 ∷ says-no 8 ∷ says-no 8 ∷ ok ∷ read 10 1 ∷ says-no 8 ∷ ok ∷ []
+  -- two writes under one map block: the second waits for the first, and sets its own bit; its group is 0, as an idle tracker's fields have it
+  pub in-turn : answers two-leaves
+      (issues 0 (writeOf false 17 10) ∷ issues 1 (writeOf false 0 11) ∷ steps 0 ∷ steps 1 ∷ steps 0 ∷ steps 0 ∷ steps 1 ∷ steps 1 ∷ steps 1
+      ∷ issues 0 (readOf true 17) ∷ steps 0 ∷ drains ∷ [])
+      ≡ ok ∷ ok ∷ moved ∷ wait ∷ moved ∷ done 3 ∷ moved ∷ moved ∷ done 4 ∷ ok ∷ read 10 1 ∷ ok ∷ []
   -- a leaf created under bit 0 has zeros beside the group, not the stale bytes; a bottom-up read and write meet it in its line
   pub neighbour : answers two-leaves
       (creates 17 10 ++ (reads 18 ++ (issues 1 (readOf true 17) ∷ steps 1 ∷ issues 1 (writeOf true 17 10) ∷ steps 1 ∷ [])))
       ≡ ok ∷ moved ∷ moved ∷ done 3 ∷ ok ∷ moved ∷ read 0 2 ∷ ok ∷ read 10 1 ∷ ok ∷ same 1 ∷ []
   -- between Leaf and Finish the map block stays held
   pub held-to-finish : answers two-leaves
-      (issues 0 (writeOf false 17 10) ∷ issues 1 (readOf false 17) ∷ steps 0 ∷ steps 0 ∷ steps 1 ∷ steps 0 ∷ steps 1 ∷ steps 1 ∷ [])
-      ≡ ok ∷ ok ∷ moved ∷ moved ∷ wait ∷ done 3 ∷ moved ∷ read 10 3 ∷ []
-  -- a leaf that a write empties is dropped before its bit is cleared; created again, it has no stale bytes
+      (issues 0 (writeOf false 17 10) ∷ issues 1 (readOf false 18) ∷ steps 0 ∷ steps 0 ∷ steps 1 ∷ steps 0 ∷ steps 1 ∷ steps 1 ∷ reads 17)
+      ≡ ok ∷ ok ∷ moved ∷ moved ∷ wait ∷ done 3 ∷ moved ∷ read 0 3 ∷ ok ∷ moved ∷ read 10 2 ∷ []
+  -- a leaf that a write empties is dropped before its bit is cleared, and Probe finds it no more; created again, it has no stale bytes
   pub emptied : answers two-leaves
-      (creates 17 10 ++ (issues 0 (writeOf false 17 0) ∷ steps 0 ∷ steps 0 ∷ issues 1 (readOf false 17) ∷ steps 1 ∷ steps 0 ∷ steps 1
-      ∷ (creates 18 5 ++ reads 17)))
+      (creates 17 10 ++ (issues 0 (writeOf false 17 0) ∷ steps 0 ∷ steps 0 ∷ issues 1 (readOf false 18) ∷ steps 1 ∷ steps 0 ∷ steps 1
+      ∷ issues 1 (readOf true 17) ∷ steps 1 ∷ steps 1 ∷ (creates 18 5 ++ reads 17)))
       ≡ ok ∷ moved ∷ moved ∷ done 3 ∷ ok ∷ moved ∷ moved ∷ ok ∷ wait ∷ done 3 ∷ read 0 2
-      ∷ ok ∷ moved ∷ moved ∷ done 3 ∷ ok ∷ moved ∷ read 0 2 ∷ []
+      ∷ ok ∷ moved ∷ read 0 2 ∷ ok ∷ moved ∷ moved ∷ done 3 ∷ ok ∷ moved ∷ read 0 2 ∷ []
   -- "same" at Map under bit 0 and at Leaf under bit 1
   pub same-twice : answers two-leaves (issues 0 (writeOf false 17 0) ∷ steps 0 ∷ (creates 17 10 ++ (issues 0 (writeOf false 17 10) ∷ steps 0 ∷ steps 0 ∷ [])))
       ≡ ok ∷ same 1 ∷ ok ∷ moved ∷ moved ∷ done 3 ∷ ok ∷ moved ∷ same 2 ∷ []
@@ -71,15 +76,21 @@ pub record Worked : Type 0 where
   -- after a drain the memory reads as the row, is true, and shows
   pub drained-reads : plainGroup 2 (ended two-leaves (creates 17 10 ++ (drains ∷ [])) .memory) 17 ≡ 10
   pub drained-true : isTrue 2 (ended two-leaves (creates 17 10 ++ (drains ∷ [])) .memory) ≡ true
+  -- one group: a read beside a read passes, a write beside either does not, nor a read beside a write, at Finish too; a busy tracker is refused 7 first
+  pub one-group : answers two-leaves
+      (issues 0 (readOf false 17) ∷ issues 1 (writeOf false 17 10) ∷ issues 0 (writeOf false 17 10) ∷ issues 1 (readOf false 17) ∷ steps 0 ∷ steps 1
+      ∷ issues 0 (writeOf false 17 10) ∷ steps 0 ∷ steps 0 ∷ issues 1 (readOf true 17) ∷ steps 0 ∷ issues 1 (writeOf false 17 0) ∷ [])
+      ≡ ok ∷ says-no 13 ∷ says-no 7 ∷ ok ∷ read 0 1 ∷ read 0 1 ∷ ok ∷ moved ∷ moved ∷ says-no 13 ∷ done 3 ∷ ok ∷ []
   -- refusals: 2, 5, 6, 7, 8
   pub refusals : answers two-leaves
       (lends [] [] (steps 0) ∷ steps 2 ∷ issues 0 (readOf false 32) ∷ issues 0 (readOf false 31) ∷ issues 0 (readOf false 31) ∷ drains ∷ steps 1 ∷ [])
       ≡ says-no 2 ∷ says-no 5 ∷ says-no 6 ∷ ok ∷ says-no 7 ∷ says-no 7 ∷ says-no 8 ∷ []
 
 pub worked : Worked
-unfolding both implies no refusal unless leafOf byteOf groups mapBlockOf mapByteOf mapBitOf mapBlocks part splice fits putW value bytes numberAt first all bitOf withBit inLimits bitAt putBit allZero blockOr0 leafBit plainGroup trueAt isTrue clearedMap used blockOf changed holder held has word heldBy cleaned lineOf lowestFree looseFrom victim after lengthsRight limits holds lineWhole trackerWhole whole rowsFit placeLine placeHand writtenBack placeMemory bringIn drained probe onMap map leafRead putIn writeUnder1 writeUnder0 leafWrite finish inLine fit turnOf fresh opened issueNo issue stepNo step allIdle drainNo drain showNo shownBit show does answers ended
+unfolding both either implies no refusal unless leafOf byteOf groups mapBlockOf mapByteOf mapBitOf mapBlocks part splice fits putW value bytes numberAt first all bitOf withBit inLimits bitAt putBit allZero blockOr0 leafBit plainGroup trueAt isTrue clearedMap used blockOf changed holder held has word heldBy cleaned lineOf lowestFree looseFrom victim after lengthsRight limits holds lineWhole trackerWhole whole rowsFit placeLine placeHand writtenBack placeMemory bringIn drained probe onMap map leafRead putIn writeUnder1 writeUnder0 leafWrite finish inLine fit turnOf fresh opened meets meetsNone issueNo issue stepNo step allIdle drainNo drain showNo shownBit show does answers ended
 worked = record {
   case-r = refl;
+  in-turn = refl;
   neighbour = refl;
   held-to-finish = refl;
   emptied = refl;
@@ -88,5 +99,6 @@ worked = record {
   changes = refl;
   drained-reads = refl;
   drained-true = refl;
+  one-group = refl;
   refusals = refl;
 }

@@ -1,4 +1,4 @@
--- 01 "What is refused": fresh, open, issue, step, drain and show, each with its refusals in order.
+-- 01 "What is refused": fresh, open, issue, step, drain and show, each with its refusals in order; 02 E3's with issue's.
 use mathlib.Core.List.{List, [], _∷_, _++_}
 use mathlib.Core.Bool.{Bool, not}
 use Prim.Native.Nat.{ℕ, _+_}
@@ -7,7 +7,7 @@ use lib.ListN.{set}
 use Rattle.geometry.specs.declared.Shape.{Shape}
 use Rattle.geometry.specs.Shape.{shapeOf}
 use Rattle.geometry.specs.TagMemory.{groups, mapBlockOf, mapByteOf, mapBitOf, blockPlace}
-use Rattle.laws.specs.Choice.{pick}
+use Rattle.laws.specs.Choice.{pick, both, either}
 use Rattle.laws.specs.Refusal.{Tests, refusal, unless}
 use Rattle.laws.specs.Scan.{all}
 use Rattle.block.specs.Block.{bitAt}
@@ -62,9 +62,18 @@ stateTests s bytes memory = (whole s, 4) ∷ (lengthsRight (s .shape) bytes memo
 abbrev pub withTracker : State → ℕ → Tracker → State
 withTracker s x t = record { shape = s .shape; lines = s .lines; trackers = set (s .trackers) x t }
 
--- "issue 4, 2, 5, 6, 7": of access a to tracker x, among the trackers us
+-- 02 E3: "a write to a group that any busy tracker has, and a read of a group that a busy write has": access a is such a one by tracker u
+unfoldable pub meets : Access → Tracker → Bool
+meets a u = both (both (not (isIdle u)) (eqb (u .group) (a .group))) (either (a .write) (u .write))
+
+-- access a meets none of the T trackers
+unfoldable pub meetsNone : (t : ℕ) → Access → List Tracker → Bool
+meetsNone t a us = all (λ y. not (meets a (trackerAt us y))) t
+
+-- "issue 4, 2, 5, 6, 7" and "13, after 7": of access a to tracker x, among the trackers us
 abbrev pub issueTests : Shape → (x : ℕ) → Access → List Tracker → Tests
-issueTests shape x a us = (ltb x (shape .t), 5) ∷ (ltb (a .group) (groups (shape .n)), 6) ∷ (isIdle (trackerAt us x), 7) ∷ []
+issueTests shape x a us =
+    (ltb x (shape .t), 5) ∷ (ltb (a .group) (groups (shape .n)), 6) ∷ (isIdle (trackerAt us x), 7) ∷ (meetsNone (shape .t) a us, 13) ∷ []
 
 unfoldable pub issueNo : State → List ℕ → List ℕ → ℕ → Access → ℕ
 issueNo s bytes memory x a = refusal (stateTests s bytes memory ++ issueTests (s .shape) x a (s .trackers))

@@ -4,39 +4,21 @@ use mathlib.Core.Bool.{true, false}
 use mathlib.Core.List.{List, [], _∷_, _++_}
 use Prim.Native.Nat.{ℕ, _+_, _-_, _≤_, _<_}
 use native.Mathlib.Omega.{arith}
-use lib.Dec.{eqb, ltb, leb}
+use lib.Dec.{ltb, leb}
 use lib.ListN.{length}
-use borrow.Author.Tests.{eq-eqb, ne-eqb, eqb-true, lt-ltb, le-ltb, le-leb, lt-leb, leb-true}
+use borrow.Author.Tests.{eq-eqb, ne-eqb, lt-ltb, le-ltb, le-leb, lt-leb, leb-true}
 use Rattle.laws.specs.Choice.{both}
 use Rattle.laws.specs.Refusal.{refusal}
 use Rattle.laws.proofs.Choice.{both-true, both-left, both-right, both-false-left, both-false-right}
 use Rattle.laws.proofs.Refusal.{Hold, refusal-0, refusal-hold, refusal-first, refusal-then, refusal-past, unless-0, unless-no}
 use Rattle.laws.specs.Scan.{countFrom}
-use Rattle.geometry.specs.TagMemory.{leafOf, groups, inLimits, memoryLength}
-use Rattle.geometry.proofs.Limits.{inLimits-most}
+use Rattle.geometry.specs.TagMemory.{leafOf, groups, memoryLength}
 use Rattle.geometry.proofs.Places.{groups-most}
+use Rattle.memory.specs.PlainReading.{sized}
 use Rattle.memory.specs.True.{isTrue}
+use Rattle.memory.proofs.Sized.{sized-hold, small, long}
 use Rattle.tagged.specs.declared.Tagged.{Tagged}
-use Rattle.tagged.specs.Tagged.{isMarked, lowest, leavesFrom, sized, inside, tests, testsAsTrue, said, refused, between, betweenAsTrue, groupNumber, leavesNumber}
-
-module _ (n : ℕ) (m : List ℕ) where
-  pub sized-1 : inLimits n ≡ false → refusal (sized n m) ≡ 1
-  sized-1 h = refusal-first [] (inLimits n) 1 ((eqb (length m) (memoryLength n), 2) ∷ []) tt h
-
-  pub sized-2 : inLimits n ≡ true → (length m ≡ memoryLength n → ⊥) → refusal (sized n m) ≡ 2
-  sized-2 h l = refusal-first ((inLimits n, 1) ∷ []) (eqb (length m) (memoryLength n)) 2 [] (h, tt) (ne-eqb (length m) (memoryLength n) l)
-
-  pub sized-0 : inLimits n ≡ true → length m ≡ memoryLength n → refusal (sized n m) ≡ 0
-  sized-0 h l = refusal-0 (sized n m) (h, (eq-eqb (length m) (memoryLength n) l, tt))
-
-  sized-hold : refusal (sized n m) ≡ 0 → Hold (sized n m)
-  sized-hold e = refusal-hold (sized n m) refl e
-
-  pub small : refusal (sized n m) ≡ 0 → n ≤ 262144
-  small e = inLimits-most n (sized-hold e .0)
-
-  long : refusal (sized n m) ≡ 0 → length m ≡ memoryLength n
-  long e = eqb-true (length m) (memoryLength n) (sized-hold e .1 .0)
+use Rattle.tagged.specs.Tagged.{isMarked, lowest, leavesFrom, inside, tests, testsAsTrue, said, refused, between, betweenAsTrue, groupNumber, leavesNumber}
 
 module _ (n a b : ℕ) where
   pub inside-after : b < a → refusal (inside n a b) ≡ 6
@@ -71,7 +53,7 @@ fits n m a b e f = record {
   long = long n m e;
   ordered = in-order n a b f;
   within = not-over n a b f;
-  narrow = groups-most n (small n m e);
+  narrow = groups-most n 262144 (small n m e);
 }
 
 module _ (n : ℕ) (m : List ℕ) (a b : ℕ) where

@@ -3,12 +3,11 @@ use mathlib.Core.Bool.{Bool, false}
 use mathlib.Core.List.{List, [], _∷_, _++_}
 use Prim.Native.Nat.{ℕ, _+_, _-_}
 use lib.Dec.{eqb, ltb, leb}
-use lib.ListN.{length}
 use Rattle.laws.specs.Choice.{pick, both, no}
 use Rattle.laws.specs.Refusal.{Tests, refusal, unless}
 use Rattle.laws.specs.Scan.{firstFrom, countFrom}
-use Rattle.geometry.specs.TagMemory.{leafOf, groups, inLimits, memoryLength}
-use Rattle.memory.specs.PlainReading.{leafBit, plainGroup}
+use Rattle.geometry.specs.TagMemory.{leafOf, groups}
+use Rattle.memory.specs.PlainReading.{leafBit, plainGroup, sized}
 use Rattle.memory.specs.True.{isTrue}
 use Rattle.tagged.specs.declared.Tagged.{Tagged}
 
@@ -29,9 +28,6 @@ unfoldable pub leavesFrom : ℕ → List ℕ → (a b : ℕ) → ℕ
 leavesFrom n m a b = pick (ltb a b) (countFrom (isMarked n m) (leafOf a) (leafOf (b - 1) + 1)) 0
 
 -- "Refusals: 1, 2, 3, then 6 for A > B or B > 16n."
-abbrev pub sized : ℕ → List ℕ → Tests
-sized n m = (inLimits n, 1) ∷ (eqb (length m) (memoryLength n), 2) ∷ []
-
 abbrev pub inside : (n a b : ℕ) → Tests
 inside n a b = (both (leb a b) (leb b (groups n)), 6) ∷ []
 

@@ -8,7 +8,7 @@ ghost use lib.ListN.{length};
 ghost use Rattle.laws.specs.Refusal.{refusal};
 ghost use Rattle.laws.specs.Scan.{firstFrom, countFrom};
 ghost use Rattle.geometry.specs.TagMemory.{groups, memoryLength};
-ghost use Rattle.tagged.specs.Tagged.{isTagged, isMarked, lowest, leavesFrom, sized, inside, tests, testsAsTrue, between, betweenAsTrue, groupNumber, leavesNumber};
+ghost use Rattle.tagged.specs.Tagged.{isTagged, isMarked, lowest, leavesFrom, inside, tests, testsAsTrue, between, betweenAsTrue, groupNumber, leavesNumber};
 
 // "4,294,967,296 plus the refusal", and the number that says none
 const REFUSED: u64 = 4294967296;
@@ -196,19 +196,6 @@ fn leaves_from(n: u32, memory: &[u8], a: u32, b: u32) -> u64
     count_marked(n, memory, Geometry::leaf_of(a), Geometry::leaf_of(b - 1)) as u64
 }
 
-// Refusals 1 and 2; 0 for neither.
-fn misfit(n: u64, memory: &[u8]) -> u8
-    ensures { λ r. ⌜ r ≡ refusal (sized n (now (memory .entry))) ⌝ }
-{
-    if !Geometry::in_limits(n) {
-        return 1;
-    }
-    if memory.len() as u64 != Geometry::memory_length(n as u32) {
-        return 2;
-    }
-    0
-}
-
 // Refusal 6, or 0.
 fn outside(n: u32, a: u64, b: u64) -> u8
     ensures { λ r. ⌜ r ≡ refusal (inside n a b) ⌝ }
@@ -226,7 +213,7 @@ fn outside(n: u32, a: u64, b: u64) -> u8
 fn refusal(n: u64, memory: &[u8], a: u64, b: u64) -> u8
     ensures { λ r. ⌜ r ≡ refusal (tests n (now (memory .entry)) a b) ⌝ }
 {
-    let c = misfit(n, memory);
+    let c = memory::misfit(n, memory);
     if 0 < c {
         return c;
     }
@@ -240,7 +227,7 @@ fn refusal(n: u64, memory: &[u8], a: u64, b: u64) -> u8
 fn refusal_as_true(n: u64, memory: &[u8], a: u64, b: u64) -> u8
     ensures { λ r. ⌜ r ≡ refusal (testsAsTrue n (now (memory .entry)) a b) ⌝ }
 {
-    let c = misfit(n, memory);
+    let c = memory::misfit(n, memory);
     if 0 < c {
         return c;
     }

@@ -138,11 +138,12 @@ module _ (t : ℕ) (ts : List Tracker) where
   unfolding implies
   idle-fails x h q f = all-fails _ 8 x q (rw (le-leb t x h) f)
 
-  -- those past the table are idle
-  pub idle-past : (e : ℕ) → length ts ≡ mostTrackers → e ≡ min t mostTrackers → all (λ x. isIdle (trackerAt ts x)) e ≡ true → all (λ x. isIdle (trackerAt ts x)) t ≡ true
-  idle-past e k m a =
+  -- a test that an idle tracker passes: those past the table pass it
+  pub all-past : (p : Tracker → Bool) → p idle ≡ true → (e : ℕ) → length ts ≡ mostTrackers → e ≡ min t mostTrackers → all (λ x. p (trackerAt ts x)) e ≡ true
+      → all (λ x. p (trackerAt ts x)) t ≡ true
+  all-past p i e k m a =
       all-is _ t
-      (λ x h. ⊎-elim (λ (q : x < e). all-at _ e a x q) (λ (q : e ≤ x). rw (tracker-past ts x k (omega arith)) refl) (lt-or-ge x e))
+      (λ x h. ⊎-elim (λ (q : x < e). all-at _ e a x q) (λ (q : e ≤ x). rw (tracker-past ts x k (omega arith)) i) (lt-or-ge x e))
 
 -- the limits, tested number by number
 pub limits-are : (shape : Shape) {b : Bool} → b ≡ limits (shapeOf (shape .n) (shape .t) (shape .l)) → limits shape ≡ b

@@ -18,7 +18,7 @@ ghost use Rattle.tracker.specs.Tracker.{holdsAt, isIdle};
 ghost use Rattle.line.specs.Word.{used};
 ghost use Rattle.rules.specs.State.{trackerAt};
 ghost use Rattle.rules.specs.Whole.{limits, holds, lineWhole, phaseWhole, trackerWhole, whole};
-ghost use Rattle.rules.specs.Calls.{issueTests, stepTests, drainTests, showTests};
+ghost use Rattle.rules.specs.Calls.{meets, meetsNone, issueTests, stepTests, drainTests, showTests};
 ghost use Rattle.whole.specs.Parts.{stateOf, holderWhole, heldByIt};
 
 // n, T and L are in the limits.
@@ -283,7 +283,33 @@ fn idle_at(trackers: [Tracker; Geometry::MOST_TRACKERS], x: u64) -> bool
     tracker.is_idle()
 }
 
-// The refusal of an issue that comes after 4 and 2: 5, 6, 7; 0 if none.
+// An access meets this tracker: it is busy with the same group, and one of the two is a write.
+fn meets(access: Access, tracker: Tracker) -> bool
+    ensures { λ r. ⌜ r ≡ meets access tracker ⌝ }
+{
+    both(
+        both(!tracker.is_idle(), tracker.group == access.group),
+        laws::either(access.write, tracker.write),
+    )
+}
+
+// An access meets none of the t trackers; those past the table are idle.
+fn meets_none(t: u32, access: Access, trackers: [Tracker; Geometry::MOST_TRACKERS]) -> bool
+    ensures { λ r. ⌜ r ≡ meetsNone t access trackers ⌝ }
+{
+    let end = lesser(t, Geometry::MOST_TRACKERS as u32) as usize;
+    let mut x: usize = 0;
+    while x < end {
+        let tracker = trackers[x];
+        if meets(access, tracker) {
+            return false;
+        }
+        x += 1;
+    }
+    true
+}
+
+// The refusal of an issue that comes after 4 and 2: 5, 6, 7, 13; 0 if none.
 pub fn issue_refusal(
     shape: Shape,
     x: u64,
@@ -298,7 +324,14 @@ pub fn issue_refusal(
     if Geometry::groups(shape.n) <= access.group as u64 {
         return 6;
     }
-    if idle_at(trackers, x) { 0 } else { 7 }
+    if !idle_at(trackers, x) {
+        return 7;
+    }
+    if meets_none(shape.t, access, trackers) {
+        0
+    } else {
+        13
+    }
 }
 
 // The refusal of a step that comes after 4 and 2: 5, 8; 0 if none.

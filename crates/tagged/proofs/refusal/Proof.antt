@@ -3,7 +3,8 @@ use borrow.Author.Needs.{needs}
 use mathlib.Core.Path.{sym, _∙_}
 use native.Mathlib.Omega.{arith}
 use borrow.Author.Tests.{not-true, not-false}
-use Rattle.tagged.proofs.Refusals.{small, untrue-3, true-then, misfit-then}
+use Rattle.memory.proofs.Sized.{small}
+use Rattle.tagged.proofs.Refusals.{untrue-3, true-then, misfit-then}
 use Rattle.tagged.proofs.refusal.Statement.{statement}
 use Rattle.tagged.proofs.refusal.Tie as tie
 

@@ -2,7 +2,8 @@
 use borrow.Author.Needs.{needs}
 use mathlib.Core.Path.{sym, _∙_}
 use native.Mathlib.Omega.{arith}
-use Rattle.tagged.proofs.Refusals.{small, sized-then, misfit-as-true}
+use Rattle.memory.proofs.Sized.{small}
+use Rattle.tagged.proofs.Refusals.{sized-then, misfit-as-true}
 use Rattle.tagged.proofs.refusal_as_true.Statement.{statement}
 use Rattle.tagged.proofs.refusal_as_true.Tie as tie
 

@@ -1,6 +1,6 @@
 -- `all_idle` meets its contract. The invariant: each of the first x trackers is idle.
 use borrow.Author.Needs.{needs}
-use mathlib.Core.Path.{_≡_, sym, _∙_}
+use mathlib.Core.Path.{_≡_, refl, sym, _∙_}
 use Prim.Native.Nat.{_≤_, _-_}
 use mathlib.Core.Bool.{true}
 use native.Mathlib.Omega.{arith}
@@ -8,7 +8,7 @@ use Rattle.laws.specs.Scan.{all}
 use Rattle.laws.proofs.Scan.{all-zero, all-more, all-fails}
 use Rattle.tracker.specs.Tracker.{isIdle}
 use Rattle.rules.specs.State.{trackerAt}
-use Rattle.whole.proofs.Tests.{idle-past}
+use Rattle.whole.proofs.Tests.{all-past}
 use Rattle.whole.proofs.all_idle.Statement.{statement}
 use Rattle.whole.proofs.all_idle.Tie as tie
 
@@ -52,7 +52,7 @@ returns : tie.Need-returns Inv-loop μ-loop
 returns c = sym (all-fails _ (c .before .before .before .before .before .before .args .t) (c .before .before .before .before .loop .x) (omega arith) (sym (c .before .is-idle .ensures) ∙ c .if1 .left))
 
 returns-2 : tie.Need-returns-2 Inv-loop μ-loop
-returns-2 c = sym (idle-past (c .before .before .before .args .t) (c .before .before .before .args .t2) (c .before .loop .x) (search needs) (omega arith) (c .before .loop .inv .1))
+returns-2 c = sym (all-past (c .before .before .before .args .t) (c .before .before .before .args .t2) isIdle refl (c .before .loop .x) (search needs) (omega arith) (c .before .loop .inv .1))
 
 pub all-idle-spec : {M : Type 1} → statement M
 all-idle-spec =

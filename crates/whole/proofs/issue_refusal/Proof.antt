@@ -2,7 +2,8 @@
 use borrow.Author.Needs.{needs}
 use mathlib.Core.Path.{sym, _∙_}
 use native.Mathlib.Omega.{arith}
-use Rattle.whole.proofs.Refusals.{issue-5, issue-6, issue-7, issue-0}
+use borrow.Author.Tests.{not-true, not-false}
+use Rattle.whole.proofs.Refusals.{issue-5, issue-6, issue-7, issue-13, issue-0}
 use Rattle.whole.proofs.issue_refusal.Statement.{statement}
 use Rattle.whole.proofs.issue_refusal.Tie as tie
 
@@ -26,13 +27,20 @@ idle-at-requires c κs = search needs
 
 returns-3 : tie.Need-returns-3
 returns-3 c = let a = c .before .before .before .before .before .before .before .args in
-    sym (issue-0 (a .shape) (a .x) (a .access) (a .trackers) (omega arith) (omega arith) (sym (c .before .idle-at .ensures) ∙ c .if3 .taken))
+    sym (issue-7 (a .shape) (a .x) (a .access) (a .trackers) (omega arith) (omega arith) (sym (c .before .idle-at .ensures) ∙ not-true _ (c .if3 .taken)))
+
+meets-none-requires : tie.Need-meets-none-requires
+meets-none-requires c κs = search needs
 
 returns-4 : tie.Need-returns-4
-returns-4 c = let a = c .before .before .before .before .before .before .before .args in
-    sym (issue-7 (a .shape) (a .x) (a .access) (a .trackers) (omega arith) (omega arith) (sym (c .before .idle-at .ensures) ∙ c .if3 .left))
+returns-4 c = let a = c .before .before .before .before .before .before .before .before .before .args in
+    sym (issue-0 (a .shape) (a .x) (a .access) (a .trackers) (omega arith) (omega arith) (sym (c .before .before .before .idle-at .ensures) ∙ not-false _ (c .before .before .if3 .left)) (sym (c .before .meets-none .ensures) ∙ c .if4 .taken))
+
+returns-5 : tie.Need-returns-5
+returns-5 c = let a = c .before .before .before .before .before .before .before .before .before .args in
+    sym (issue-13 (a .shape) (a .x) (a .access) (a .trackers) (omega arith) (omega arith) (sym (c .before .before .before .idle-at .ensures) ∙ not-false _ (c .before .before .if3 .left)) (sym (c .before .meets-none .ensures) ∙ c .if4 .left))
 
 pub issue-refusal-spec : {M : Type 1} → statement M
 issue-refusal-spec =
     tie.close
-    (tie.spec cast-if1 returns groups-requires cast-if2 returns-2 idle-at-requires returns-3 returns-4)
+    (tie.spec cast-if1 returns groups-requires cast-if2 returns-2 idle-at-requires returns-3 meets-none-requires returns-4 returns-5)

@@ -4,9 +4,9 @@ use mathlib.Core.Path.{sym, _∙_}
 use native.Mathlib.Omega.{arith}
 use borrow.Author.Tests.{not-true, not-false}
 use Rattle.geometry.proofs.Limits.{inLimits-most}
-use Rattle.tagged.proofs.Refusals.{sized-1, sized-2, sized-0}
-use Rattle.tagged.proofs.misfit.Statement.{statement}
-use Rattle.tagged.proofs.misfit.Tie as tie
+use Rattle.memory.proofs.Sized.{sized-1, sized-2, sized-0}
+use Rattle.memory.proofs.misfit.Statement.{statement}
+use Rattle.memory.proofs.misfit.Tie as tie
 
 in-limits-requires : tie.Need-in-limits-requires
 in-limits-requires c κs = search needs
