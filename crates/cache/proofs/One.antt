@@ -16,7 +16,7 @@ use Rattle.cache.specs.Seen.{seen, did}
 
 -- the state of the code that is seen so
 abbrev stateOf : rules.State → State
-stateOf s = record { n = s .n; t = s .t; l = s .l; hand = s .hand; lines = s .lines; trackers = s .trackers }
+stateOf s = record { shape = s .shape; lines = s .lines; trackers = s .trackers }
 
 -- two states that are seen alike are one
 pub seen-one : (a b : State) → seen a ≡ seen b → a ≡ b

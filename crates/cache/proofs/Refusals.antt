@@ -13,6 +13,7 @@ use Rattle.laws.proofs.Refusal.{refusal-0, refusal-hold, refusal-first, refusal
 use Rattle.laws.specs.Bytes.{part}
 use Rattle.laws.specs.Scan.{all}
 use Rattle.laws.proofs.Choice.{both-true}
+use Rattle.geometry.specs.Shape.{shapeOf}
 use Rattle.geometry.specs.TagMemory.{memoryLength, mapBlockOf, mapByteOf, mapBitOf, blockPlace, mostLeaves, mostTrackers, mostLines}
 use Rattle.block.specs.Block.{bitAt}
 use Rattle.memory.specs.PlainReading.{leafBit}
@@ -33,39 +34,39 @@ use Rattle.cache.specs.Seen.{unready, unfit}
 
 -- fresh and open
 module _ (n t l : ℕ) (bytes memory : List ℕ) where
-  pub unready-1 : limits n t l ≡ false → unready n t l bytes memory ≡ 1
+  pub unready-1 : limits (shapeOf n t l) ≡ false → unready n t l bytes memory ≡ 1
   unready-1 h = refusal-first [] _ _ _ tt h
 
-  pub unready-2 : limits n t l ≡ true → lengthsRight n l bytes memory ≡ false → unready n t l bytes memory ≡ 2
-  unready-2 h k = refusal-first ((limits n t l, 1) ∷ []) _ _ _ (h, tt) k
+  pub unready-2 : limits (shapeOf n t l) ≡ true → lengthsRight (shapeOf n t l) bytes memory ≡ false → unready n t l bytes memory ≡ 2
+  unready-2 h k = refusal-first ((limits (shapeOf n t l), 1) ∷ []) _ _ _ (h, tt) k
 
-  pub unready-0 : limits n t l ≡ true → lengthsRight n l bytes memory ≡ true → unready n t l bytes memory ≡ 0
-  unready-0 h k = refusal-0 (freshTests n t l bytes memory) (h, (k, tt))
+  pub unready-0 : limits (shapeOf n t l) ≡ true → lengthsRight (shapeOf n t l) bytes memory ≡ true → unready n t l bytes memory ≡ 0
+  unready-0 h k = refusal-0 (freshTests (shapeOf n t l) bytes memory) (h, (k, tt))
 
-  pub ready-limits : unready n t l bytes memory ≡ 0 → limits n t l ≡ true
+  pub ready-limits : unready n t l bytes memory ≡ 0 → limits (shapeOf n t l) ≡ true
   ready-limits e = fresh-free n t l bytes memory e .0
 
   pub fresh-refused : (c : ℕ) → c ≡ unready n t l bytes memory → 0 < c → fresh n t l bytes memory ≡ refused c zeroState bytes memory
   fresh-refused c e h = rw e (refuses-fresh n t l bytes memory (rw e at h))
 
-  pub fresh-accepted : unready n t l bytes memory ≡ 0 → fresh n t l bytes memory ≡ accepted (begun n t l) bytes (clearedMap n memory)
+  pub fresh-accepted : unready n t l bytes memory ≡ 0 → fresh n t l bytes memory ≡ accepted (begun (shapeOf n t l)) bytes (clearedMap n memory)
   fresh-accepted e = accepts-fresh n t l bytes memory e
 
   pub open-refused : (c : ℕ) → c ≡ unready n t l bytes memory → 0 < c → opened n t l bytes memory ≡ refused c zeroState bytes memory
   open-refused c e h =
-      let q = refusal-then (freshTests n t l bytes memory) ((isTrue n memory, 3) ∷ []) (rw e at h) in
+      let q = refusal-then (freshTests (shapeOf n t l) bytes memory) ((isTrue n memory, 3) ∷ []) (rw e at h) in
       refuses-open n t l bytes memory (rw q (rw e at h)) ∙ rw (q, e)
 
   module _ (e : unready n t l bytes memory ≡ 0) where
-    open-no : refusal (openTests n t l bytes memory) ≡ refusal ((isTrue n memory, 3) ∷ [])
-    open-no = refusal-past (freshTests n t l bytes memory) _ (refusal-hold (freshTests n t l bytes memory) refl e)
+    open-no : refusal (openTests (shapeOf n t l) bytes memory) ≡ refusal ((isTrue n memory, 3) ∷ [])
+    open-no = refusal-past (freshTests (shapeOf n t l) bytes memory) _ (refusal-hold (freshTests (shapeOf n t l) bytes memory) refl e)
 
     pub open-3 : isTrue n memory ≡ false → opened n t l bytes memory ≡ refused 3 zeroState bytes memory
     open-3 q =
-        let c : refusal (openTests n t l bytes memory) ≡ 3 = open-no ∙ refusal-first [] _ _ _ tt q in
+        let c : refusal (openTests (shapeOf n t l) bytes memory) ≡ 3 = open-no ∙ refusal-first [] _ _ _ tt q in
         refuses-open n t l bytes memory (omega arith) ∙ rw c
 
-    pub open-accepted : isTrue n memory ≡ true → opened n t l bytes memory ≡ accepted (begun n t l) bytes memory
+    pub open-accepted : isTrue n memory ≡ true → opened n t l bytes memory ≡ accepted (begun (shapeOf n t l)) bytes memory
     open-accepted q = accepts-open n t l bytes memory (open-no ∙ refusal-0 ((isTrue n memory, 3) ∷ []) (q, tt))
 
 -- refusals 4 and 2
@@ -73,10 +74,10 @@ module _ (s : State) (bytes memory : List ℕ) where
   pub unfit-4 : whole s ≡ false → unfit s bytes memory ≡ 4
   unfit-4 h = refusal-first [] _ _ _ tt h
 
-  pub unfit-2 : whole s ≡ true → lengthsRight (s .n) (s .l) bytes memory ≡ false → unfit s bytes memory ≡ 2
+  pub unfit-2 : whole s ≡ true → lengthsRight (s .shape) bytes memory ≡ false → unfit s bytes memory ≡ 2
   unfit-2 h k = refusal-first ((whole s, 4) ∷ []) _ _ _ (h, tt) k
 
-  pub unfit-0 : whole s ≡ true → lengthsRight (s .n) (s .l) bytes memory ≡ true → unfit s bytes memory ≡ 0
+  pub unfit-0 : whole s ≡ true → lengthsRight (s .shape) bytes memory ≡ true → unfit s bytes memory ≡ 0
   unfit-0 h k = refusal-0 (stateTests s bytes memory) (h, (k, tt))
 
   pub fit-whole : unfit s bytes memory ≡ 0 → whole s ≡ true
@@ -95,7 +96,7 @@ module _ (s : State) (bytes memory : List ℕ) (x : ℕ) (a : Access) where
   unfolding issueNo
   issue-unfit h = then-no s bytes memory _ h
 
-  pub issue-fit : unfit s bytes memory ≡ 0 → issueNo s bytes memory x a ≡ refusal (issueTests (s .n) (s .t) x a (s .trackers))
+  pub issue-fit : unfit s bytes memory ≡ 0 → issueNo s bytes memory x a ≡ refusal (issueTests (s .shape) x a (s .trackers))
   unfolding issueNo
   issue-fit e = past-no s bytes memory _ e
 
@@ -103,8 +104,8 @@ module _ (s : State) (bytes memory : List ℕ) (x : ℕ) (a : Access) where
   pub issue-in : issueNo s bytes memory x a ≡ 0 → x < mostTrackers
   unfolding issueNo
   issue-in e =
-      let h = refusal-hold (stateTests s bytes memory ++ issueTests (s .n) (s .t) x a (s .trackers)) refl e in
-      omega (arith, ltb-true x (s .t) (h .1 .1 .0), t-most _ _ _ (whole-facts s (h .0) .limits-ok))
+      let h = refusal-hold (stateTests s bytes memory ++ issueTests (s .shape) x a (s .trackers)) refl e in
+      omega (arith, ltb-true x (s .shape .t) (h .1 .1 .0), t-most _ (whole-facts s (h .0) .limits-ok))
 
   pub issue-refused : (c : ℕ) → c ≡ issueNo s bytes memory x a → 0 < c → issue s bytes memory x a ≡ refused c s bytes memory
   unfolding issue
@@ -120,22 +121,22 @@ module _ (s : State) (bytes memory : List ℕ) (x : ℕ) where
   unfolding stepNo
   step-unfit h = then-no s bytes memory _ h
 
-  pub step-fit : unfit s bytes memory ≡ 0 → stepNo s bytes memory x ≡ refusal (stepTests (s .t) x (s .trackers))
+  pub step-fit : unfit s bytes memory ≡ 0 → stepNo s bytes memory x ≡ refusal (stepTests (s .shape) x (s .trackers))
   unfolding stepNo
   step-fit e = past-no s bytes memory _ e
 
   pub step-in : stepNo s bytes memory x ≡ 0 → x < mostTrackers
   unfolding stepNo
   step-in e =
-      let h = refusal-hold (stateTests s bytes memory ++ stepTests (s .t) x (s .trackers)) refl e in
-      omega (arith, ltb-true x (s .t) (h .1 .1 .0), t-most _ _ _ (whole-facts s (h .0) .limits-ok))
+      let h = refusal-hold (stateTests s bytes memory ++ stepTests (s .shape) x (s .trackers)) refl e in
+      omega (arith, ltb-true x (s .shape .t) (h .1 .1 .0), t-most _ (whole-facts s (h .0) .limits-ok))
 
   pub step-refused : (c : ℕ) → c ≡ stepNo s bytes memory x → 0 < c → step s bytes memory x ≡ refused c s bytes memory
   unfolding step
   step-refused c e h = rw (← e) (unless-no _ _ h)
 
   pub step-accepted : stepNo s bytes memory x ≡ 0
-      → step s bytes memory x ≡ stepped s x (turnOf (s .n) (s .l) (s .hand) x (trackerAt (s .trackers) x) (rows (s .lines) bytes memory))
+      → step s bytes memory x ≡ stepped s x (turnOf (s .shape) x (trackerAt (s .trackers) x) (rows (s .lines) bytes memory))
   unfolding step
   step-accepted e = unless-0 _ _ e
 
@@ -145,18 +146,18 @@ module _ (s : State) (bytes memory : List ℕ) where
   unfolding drainNo
   drain-unfit h = then-no s bytes memory _ h
 
-  pub drain-fit : unfit s bytes memory ≡ 0 → drainNo s bytes memory ≡ refusal (drainTests (all (λ x. isIdle (trackerAt (s .trackers) x)) (s .t)))
+  pub drain-fit : unfit s bytes memory ≡ 0 → drainNo s bytes memory ≡ refusal (drainTests (all (λ x. isIdle (trackerAt (s .trackers) x)) (s .shape .t)))
   unfolding drainNo allIdle
   drain-fit e = past-no s bytes memory _ e
 
   -- where a drain is not refused, the rows are of L lines
-  pub drain-rows : drainNo s bytes memory ≡ 0 → length (s .lines) ≡ mostLines → drainedRows (s .l) (rows (s .lines) bytes memory) ≡ drained (s .l) (rows (s .lines) bytes memory)
+  pub drain-rows : drainNo s bytes memory ≡ 0 → length (s .lines) ≡ mostLines → drainedRows (s .shape) (rows (s .lines) bytes memory) ≡ drained (s .shape .l) (rows (s .lines) bytes memory)
   unfolding drainNo drainedRows rowsFit
   drain-rows e h =
       let h' = refusal-hold (stateTests s bytes memory ++ drainTests (allIdle s)) refl e in
-      let f : both (leb (s .l) (length (s .lines))) (eqb (length bytes) (64 * s .l)) ≡ true =
-      both-true _ _ (le-leb (s .l) (length (s .lines)) (omega (arith, l-most _ _ _ (whole-facts s (h' .0) .limits-ok))))
-      (eq-eqb (length bytes) (64 * s .l) (bytes-right (s .n) (s .l) bytes memory (h' .1 .0))) in
+      let f : both (leb (s .shape .l) (length (s .lines))) (eqb (length bytes) (64 * s .shape .l)) ≡ true =
+      both-true _ _ (le-leb (s .shape .l) (length (s .lines)) (omega (arith, l-most _ (whole-facts s (h' .0) .limits-ok))))
+      (eq-eqb (length bytes) (64 * s .shape .l) (bytes-right (s .shape) bytes memory (h' .1 .0))) in
       rw f
 
   pub drain-refused : (c : ℕ) → c ≡ drainNo s bytes memory → 0 < c → drain s bytes memory ≡ refused c s bytes memory
@@ -165,7 +166,7 @@ module _ (s : State) (bytes memory : List ℕ) where
 
   pub drain-accepted : drainNo s bytes memory ≡ 0
       → drain s bytes memory
-      ≡ accepted (withLines s (drained (s .l) (rows (s .lines) bytes memory) .lines)) bytes (drained (s .l) (rows (s .lines) bytes memory) .memory)
+      ≡ accepted (withLines s (drained (s .shape .l) (rows (s .lines) bytes memory) .lines)) bytes (drained (s .shape .l) (rows (s .lines) bytes memory) .memory)
   unfolding drain
   drain-accepted e = unless-0 _ _ e
 
@@ -175,40 +176,40 @@ module _ (s : State) (bytes memory : List ℕ) (k : ℕ) where
   unfolding showNo
   show-unfit h = then-no s bytes memory _ h
 
-  pub show-fit : unfit s bytes memory ≡ 0 → showNo s bytes memory k ≡ refusal (showTests (s .n) k (all (λ x. isIdle (trackerAt (s .trackers) x)) (s .t)))
+  pub show-fit : unfit s bytes memory ≡ 0 → showNo s bytes memory k ≡ refusal (showTests (s .shape) k (all (λ x. isIdle (trackerAt (s .trackers) x)) (s .shape .t)))
   unfolding showNo allIdle
   show-fit e = past-no s bytes memory _ e
 
   -- where a leaf is shown
-  pub show-in : showNo s bytes memory k ≡ 0 → (k < s .n) × (s .n ≤ mostLeaves) × (s .l ≤ mostLines) × (length bytes ≡ 64 * s .l) × (length memory ≡ memoryLength (s .n))
+  pub show-in : showNo s bytes memory k ≡ 0 → (k < s .shape .n) × (s .shape .n ≤ mostLeaves) × (s .shape .l ≤ mostLines) × (length bytes ≡ 64 * s .shape .l) × (length memory ≡ memoryLength (s .shape .n))
   unfolding showNo
   show-in e =
-      let h = refusal-hold (stateTests s bytes memory ++ showTests (s .n) k (allIdle s)) refl e in
+      let h = refusal-hold (stateTests s bytes memory ++ showTests (s .shape) k (allIdle s)) refl e in
       let f = whole-facts s (h .0) .limits-ok in
-      (ltb-true k (s .n) (h .1 .1 .0), n-most _ _ _ f, l-most _ _ _ f, bytes-right (s .n) (s .l) bytes memory (h .1 .0), memory-right (s .n) (s .l) bytes memory (h .1 .0))
+      (ltb-true k (s .shape .n) (h .1 .1 .0), n-most _ f, l-most _ f, bytes-right (s .shape) bytes memory (h .1 .0), memory-right (s .shape) bytes memory (h .1 .0))
 
   pub show-refused : 0 < showNo s bytes memory k → show s bytes memory k ≡ []
   unfolding show
   show-refused h = unless-no _ (λ _. []) h
 
   module _ (e : showNo s bytes memory k ≡ 0) where
-    pub show-line : (i : ℕ) → i ≡ lineOf (s .lines) (s .l) k → i < s .l → show s bytes memory k ≡ part bytes (64 * i) 64
+    pub show-line : (i : ℕ) → i ≡ lineOf (s .lines) (s .shape .l) k → i < s .shape .l → show s bytes memory k ≡ part bytes (64 * i) 64
     unfolding show unless
-    show-line i q h = rw (e, ← q, lt-ltb i (s .l) h)
+    show-line i q h = rw (e, ← q, lt-ltb i (s .shape .l) h)
 
-    pub show-memory : s .l ≤ lineOf (s .lines) (s .l) k → shownBit s bytes memory k ≡ 1 → show s bytes memory k ≡ part memory (64 * k) 64
+    pub show-memory : s .shape .l ≤ lineOf (s .lines) (s .shape .l) k → shownBit s bytes memory k ≡ 1 → show s bytes memory k ≡ part memory (64 * k) 64
     unfolding show unless
-    show-memory h b = rw (e, le-ltb (lineOf (s .lines) (s .l) k) (s .l) h, b)
+    show-memory h b = rw (e, le-ltb (lineOf (s .lines) (s .shape .l) k) (s .shape .l) h, b)
 
-    pub show-empty : s .l ≤ lineOf (s .lines) (s .l) k → (shownBit s bytes memory k ≡ 1 → ⊥) → show s bytes memory k ≡ []
+    pub show-empty : s .shape .l ≤ lineOf (s .lines) (s .shape .l) k → (shownBit s bytes memory k ≡ 1 → ⊥) → show s bytes memory k ≡ []
     unfolding show unless
-    show-empty h b = rw (e, le-ltb (lineOf (s .lines) (s .l) k) (s .l) h, ne-eqb (shownBit s bytes memory k) 1 b)
+    show-empty h b = rw (e, le-ltb (lineOf (s .lines) (s .shape .l) k) (s .shape .l) h, ne-eqb (shownBit s bytes memory k) 1 b)
 
-  pub bit-lined : (j : ℕ) → j ≡ lineOf (s .lines) (s .l) (s .n + mapBlockOf k) → j < s .l
+  pub bit-lined : (j : ℕ) → j ≡ lineOf (s .lines) (s .shape .l) (s .shape .n + mapBlockOf k) → j < s .shape .l
       → shownBit s bytes memory k ≡ bitAt bytes (blockPlace j + mapByteOf k) (mapBitOf k)
   unfolding shownBit
-  bit-lined j q h = rw (← q, lt-ltb j (s .l) h)
+  bit-lined j q h = rw (← q, lt-ltb j (s .shape .l) h)
 
-  pub bit-memory : (j : ℕ) → j ≡ lineOf (s .lines) (s .l) (s .n + mapBlockOf k) → s .l ≤ j → shownBit s bytes memory k ≡ leafBit (s .n) memory k
+  pub bit-memory : (j : ℕ) → j ≡ lineOf (s .lines) (s .shape .l) (s .shape .n + mapBlockOf k) → s .shape .l ≤ j → shownBit s bytes memory k ≡ leafBit (s .shape .n) memory k
   unfolding shownBit
-  bit-memory j q h = rw (← q, le-ltb j (s .l) h)
+  bit-memory j q h = rw (← q, le-ltb j (s .shape .l) h)

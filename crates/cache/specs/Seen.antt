@@ -2,6 +2,7 @@
 use mathlib.Core.List.{List}
 use Prim.Native.Nat.{ℕ}
 use Rattle.laws.specs.Refusal.{refusal}
+use Rattle.geometry.specs.Shape.{shapeOf}
 use Rattle.tracker.specs.Answer.{says}
 use Rattle.rules.specs.State as rules
 use Rattle.rules.specs.Calls as calls
@@ -10,11 +11,11 @@ use Rattle.cache.specs.declared.Out.{Out}
 
 -- field by field
 abbrev pub seen : State → rules.State
-seen s = record { n = s .n; t = s .t; l = s .l; hand = s .hand; lines = s .lines; trackers = s .trackers }
+seen s = record { shape = s .shape; lines = s .lines; trackers = s .trackers }
 
 -- refusals 1 and 2, which come first in fresh and open; 0 for neither
 abbrev pub unready : ℕ → ℕ → ℕ → List ℕ → List ℕ → ℕ
-unready n t l bytes memory = refusal (calls.freshTests n t l bytes memory)
+unready n t l bytes memory = refusal (calls.freshTests (shapeOf n t l) bytes memory)
 
 -- refusals 4 and 2, which come first in each call on a state; 0 for neither
 abbrev pub unfit : rules.State → List ℕ → List ℕ → ℕ

@@ -1,28 +1,28 @@
 // The cache and its trackers: 01's calls fresh, open, issue, step, drain and show, over a state that goes by value.
 // No public function has a `requires`: every number, every field of the state and both lent slices can be anything.
 use geometry::Geometry;
+use geometry::Shape;
 use tracker::Access;
 use tracker::Answer;
 use tracker::Tracker;
 use turned::Turned;
 ghost use mathlib.Core.Path.{_≡_};
+ghost use mathlib.Core.Bool.{true};
 ghost use Prim.Native.Nat.{_≤_};
 ghost use Rattle.tracker.specs.Answer.{says, no};
+ghost use Rattle.geometry.specs.Shape.{shapeOf};
 ghost use Rattle.geometry.specs.TagMemory.{mostLeaves, mostLines};
 ghost use Rattle.rules.specs.State.{begun, zeroState};
-ghost use Rattle.rules.specs.Whole.{whole};
+ghost use Rattle.rules.specs.Whole.{limits, whole};
 ghost use Rattle.rules.specs.Step.{turnOf};
 ghost use Rattle.rules.specs.Calls.{fresh, opened, issueNo, issue, stepNo, step, drainNo, drain, showNo, shownBit, show};
 ghost use Rattle.lines.specs.Lines.{rows, drainedRows};
 ghost use Rattle.turned.specs.Steps.{turned};
 ghost use Rattle.cache.specs.Seen.{seen, unready, unfit, did};
 
-// T trackers and L lines over n leaves: a line is a number (`line`), 0 where it is free; lines L and up, trackers T and up are not used.
+// The shape, with L lines and T trackers: a line is a number (`line`), 0 where it is free; lines L and up, trackers T and up are not used.
 pub struct State {
-    pub n: u32,
-    pub t: u32,
-    pub l: usize,
-    pub hand: usize,
+    pub shape: Shape,
     pub lines: [u32; Geometry::MOST_LINES],
     pub trackers: [Tracker; Geometry::MOST_TRACKERS],
 }
@@ -34,39 +34,42 @@ pub struct Out {
 }
 
 // The row of lines, lent on as a slice to be drained.
-fn drain_row(l: usize, row: &mut [u32; Geometry::MOST_LINES], bytes: &[u8], memory: &mut [u8])
-    ensures { λ _. ⌜ rows (now (row .exit)) (now (bytes .entry)) (now (memory .exit)) ≡ drainedRows l (rows (now (row .entry)) (now (bytes .entry)) (now (memory .entry))) ⌝ }
+fn drain_row(shape: Shape, row: &mut [u32; Geometry::MOST_LINES], bytes: &[u8], memory: &mut [u8])
+    ensures { λ _. ⌜ rows (now (row .exit)) (now (bytes .entry)) (now (memory .exit)) ≡ drainedRows shape (rows (now (row .entry)) (now (bytes .entry)) (now (memory .entry))) ⌝ }
 {
-    lines::drain(l, row, bytes, memory);
+    lines::drain(shape, row, bytes, memory);
 }
 
 // The row of lines, lent on as a slice for a step.
 fn turn_row(
-    n: u32,
-    l: usize,
-    hand: usize,
+    shape: Shape,
     x: u32,
     tracker: Tracker,
     row: &mut [u32; Geometry::MOST_LINES],
     bytes: &mut [u8],
     memory: &mut [u8],
 ) -> Turned
-    ensures { λ r. ⌜ turned r (now (row .exit)) (now (bytes .exit)) (now (memory .exit)) ≡ turnOf n l hand x tracker (rows (now (row .entry)) (now (bytes .entry)) (now (memory .entry))) ⌝ }
+    ensures { λ r. ⌜ turned r (now (row .exit)) (now (bytes .exit)) (now (memory .exit)) ≡ turnOf shape x tracker (rows (now (row .entry)) (now (bytes .entry)) (now (memory .entry))) ⌝ }
 {
-    step::turn(n, l, hand, x, tracker, row, bytes, memory)
+    step::turn(shape, x, tracker, row, bytes, memory)
+}
+
+// The shape of n leaves, T trackers and L lines, which are in the limits.
+fn shaped(n: u64, t: u64, l: u64) -> Shape
+    requires { ⌜ limits (shapeOf n t l) ≡ true ⌝ }
+    ensures { λ r. ⌜ r ≡ shapeOf n t l ⌝ }
+{
+    Shape::start(n as u32, t as u32, l as usize)
 }
 
 impl State {
-    // Every line free, every tracker idle, the hand at 0.
-    fn begin(n: u32, t: u32, l: usize) -> State
-        ensures { λ r. ⌜ seen r ≡ begun n t l ⌝ }
+    // Every line free, every tracker idle.
+    fn begin(shape: Shape) -> State
+        ensures { λ r. ⌜ seen r ≡ begun shape ⌝ }
     {
         let idle = Tracker::rest();
         State {
-            n,
-            t,
-            l,
-            hand: 0,
+            shape,
             lines: [0; Geometry::MOST_LINES],
             trackers: [idle; Geometry::MOST_TRACKERS],
         }
@@ -77,7 +80,7 @@ impl State {
         ensures { λ r. ⌜ (seen (r .state) ≡ zeroState) × (says (r .answer) ≡ no c) ⌝ }
     {
         Out {
-            state: State::begin(0, 0, 0),
+            state: State::begin(Shape::start(0, 0, 0)),
             answer: Answer::No(c),
         }
     }
@@ -96,8 +99,9 @@ impl State {
     pub fn whole(self) -> bool
         ensures { λ r. ⌜ r ≡ whole (seen self) ⌝ }
     {
+        let shape = self.shape;
         let trackers = self.trackers;
-        whole::whole(self.n, self.t, self.l, self.hand, &self.lines, trackers)
+        whole::whole(shape, &self.lines, trackers)
     }
 
     // Refusals 1 and 2, which come first in fresh and open; 0 for neither.
@@ -107,7 +111,7 @@ impl State {
         if !whole::limits(n, t, l) {
             return 1;
         }
-        if !step::lengths_right(n as u32, l as usize, bytes, memory) {
+        if !step::lengths_right(shaped(n, t, l), bytes, memory) {
             return 2;
         }
         0
@@ -121,9 +125,10 @@ impl State {
         if 0 < c {
             return State::none(c);
         }
-        memory::clear_map(n as u32, memory);
+        let shape = shaped(n, t, l);
+        memory::clear_map(shape.n, memory);
         Out {
-            state: State::begin(n as u32, t as u32, l as usize),
+            state: State::begin(shape),
             answer: Answer::Accepted,
         }
     }
@@ -136,11 +141,12 @@ impl State {
         if 0 < c {
             return State::none(c);
         }
-        if !memory::is_true(n as u32, memory) {
+        let shape = shaped(n, t, l);
+        if !memory::is_true(shape.n, memory) {
             return State::none(3);
         }
         Out {
-            state: State::begin(n as u32, t as u32, l as usize),
+            state: State::begin(shape),
             answer: Answer::Accepted,
         }
     }
@@ -152,7 +158,8 @@ impl State {
         if !self.whole() {
             return 4;
         }
-        if !step::lengths_right(self.n, self.l, bytes, memory) {
+        let shape = self.shape;
+        if !step::lengths_right(shape, bytes, memory) {
             return 2;
         }
         0
@@ -166,8 +173,9 @@ impl State {
         if 0 < c {
             return c;
         }
+        let shape = self.shape;
         let trackers = self.trackers;
-        whole::issue_refusal(self.n, self.t, x, access, trackers)
+        whole::issue_refusal(shape, x, access, trackers)
     }
 
     // An access for tracker x: refusals 4, 2, 5, 6, 7, 13.
@@ -195,8 +203,9 @@ impl State {
         if 0 < c {
             return c;
         }
+        let shape = self.shape;
         let trackers = self.trackers;
-        whole::step_refusal(self.t, x, trackers)
+        whole::step_refusal(shape, x, trackers)
     }
 
     // One step of tracker x: refusals 4, 2, 5, 8.
@@ -209,18 +218,10 @@ impl State {
         }
         let k = x as usize;
         let tracker = self.trackers[k];
-        let l = self.l;
-        let r = turn_row(
-            self.n,
-            l,
-            self.hand,
-            x as u32,
-            tracker,
-            &mut self.lines,
-            bytes,
-            memory,
-        );
-        self.hand = r.hand;
+        let shape = self.shape;
+        let r = turn_row(shape, x as u32, tracker, &mut self.lines, bytes, memory);
+        let moved = r.shape;
+        self.shape = moved;
         let left = r.tracker;
         self.trackers[k] = left;
         let answer = r.answer;
@@ -238,8 +239,9 @@ impl State {
         if 0 < c {
             return c;
         }
+        let shape = self.shape;
         let trackers = self.trackers;
-        whole::drain_refusal(self.t, trackers)
+        whole::drain_refusal(shape, trackers)
     }
 
     // The changed lines are written to memory, lowest first, and marked clean: refusals 4, 2, 7.
@@ -250,8 +252,8 @@ impl State {
         if 0 < c {
             return self.refuse(c);
         }
-        let all = self.l;
-        drain_row(all, &mut self.lines, bytes, memory);
+        let shape = self.shape;
+        drain_row(shape, &mut self.lines, bytes, memory);
         Out {
             state: self,
             answer: Answer::Accepted,
@@ -266,17 +268,19 @@ impl State {
         if 0 < c {
             return c;
         }
+        let shape = self.shape;
         let trackers = self.trackers;
-        whole::show_refusal(self.n, self.t, k, trackers)
+        whole::show_refusal(shape, k, trackers)
     }
 
     // Leaf k's bit, read in the map block's line if it has one.
     fn shown_bit(self, bytes: &[u8], memory: &[u8], k: u32) -> u8
-        requires { ⌜ (self .n ≤ mostLeaves) × (self .l ≤ mostLines) ⌝ }
+        requires { ⌜ (self .shape .n ≤ mostLeaves) × (self .shape .l ≤ mostLines) ⌝ }
         ensures { λ r. ⌜ r ≡ shownBit (seen self) (now (bytes .entry)) (now (memory .entry)) k ⌝ }
     {
-        let l = self.l;
-        let j = line::line_of(&self.lines, l, Geometry::map_number(self.n, k) as u32);
+        let shape = self.shape;
+        let l = shape.l;
+        let j = line::line_of(&self.lines, l, Geometry::map_number(shape.n, k) as u32);
         if j < l {
             return block::bit_at(
                 bytes,
@@ -284,7 +288,7 @@ impl State {
                 Geometry::map_bit_of(k),
             );
         }
-        memory::leaf_bit(self.n, memory, k)
+        memory::leaf_bit(shape.n, memory, k)
     }
 
     // Leaf k: the 64 bytes in its line; else, under bit 1, those in memory; under bit 0, and refused, an empty part of memory.
@@ -295,7 +299,7 @@ impl State {
             return &memory[0..0];
         }
         let leaf = k as u32;
-        let l = self.l;
+        let l = self.shape.l;
         let i = line::line_of(&self.lines, l, leaf);
         if i < l {
             let at = Geometry::BLOCK_LEN * i;

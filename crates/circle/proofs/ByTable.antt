@@ -6,6 +6,7 @@ use Prim.Native.Nat.{ℕ, _+_}
 use lib.Dec.{eqb, ltb}
 use lib.ListN.{getD}
 use Rattle.laws.specs.Choice.{pick, both}
+use Rattle.geometry.specs.declared.Shape.{Shape}
 use Rattle.geometry.specs.TagMemory.{leafOf, byteOf, blockPlace}
 use Rattle.block.specs.Block.{putGroup, allZero}
 use Rattle.tracker.specs.declared.Phase.{Phase}
@@ -25,8 +26,10 @@ use Rattle.circle.specs.Table.{Move, waits, to, ends, rule}
 use Rattle.circle.proofs.Ending.{Ending}
 
 -- the line of the map block of group g names a holder
-abbrev pub lockHeld : (n l : ℕ) → List ℕ → ℕ → Bool
-lockHeld n l lines g = both (ltb (lineOf lines l (mapBlock n g)) l) (held (getD lines (lineOf lines l (mapBlock n g)) 0))
+abbrev pub lockHeld : Shape → List ℕ → ℕ → Bool
+lockHeld shape lines g =
+    let i = lineOf lines (shape .l) (mapBlock (shape .n) g) in
+    both (ltb i (shape .l)) (held (getD lines i 0))
 
 -- what a move of the table says and leaves of the tracker
 abbrev pub Moved : Tracker → Move Phase → Said → Tracker → Type 0
@@ -43,11 +46,11 @@ either-way true u v = u
 either-way false u v = v
 
 module _ (t : Tracker) (h w : Bool) where
-  probe-way : (l hand : ℕ) (r : Rows) → Way t h w Probe (probe l hand t r)
+  probe-way : (shape : Shape) (r : Rows) → Way t h w Probe (probe shape t r)
   unfolding probe
-  probe-way l hand r =
-      let i = lineOf (r .lines) l (leafOf (t .group)) in
-      either-way (ltb i l)
+  probe-way shape r =
+      let i = lineOf (r .lines) (shape .l) (leafOf (t .group)) in
+      either-way (ltb i (shape .l))
       (either-way (t .write) (either-way (eqb (groupIn (r .bytes) i (t .group)) (t .value)) (moves true false (refl, refl)) (moves false false (refl, refl)))
       (moves true false (refl, refl)))
       (moves false false (refl, refl))
@@ -59,9 +62,9 @@ module _ (t : Tracker) (h w : Bool) where
       (either-way (t .write) (either-way (eqb (t .value) 0) (moves true false (refl, refl)) (moves false false (refl, refl))) (moves true false (refl, refl)))
       (moves false false (refl, refl))
 
-  leafRead-way : (l hand j : ℕ) (r : Rows) → Way t h false Leaf (leafRead l hand j t r)
+  leafRead-way : (shape : Shape) (j : ℕ) (r : Rows) → Way t h false Leaf (leafRead shape j t r)
   unfolding leafRead
-  leafRead-way l hand j r = either-way (ltb (bringIn l hand (leafOf (t .group)) r .line) l) (moves true false (refl, refl)) (refused 4 refl)
+  leafRead-way shape j r = either-way (ltb (bringIn shape (leafOf (t .group)) r .line) (shape .l)) (moves true false (refl, refl)) (refused 4 refl)
 
   putIn-way : (j : ℕ) (b : Brought) → Way t h true Leaf (putIn j t b)
   unfolding putIn
@@ -69,45 +72,45 @@ module _ (t : Tracker) (h w : Bool) where
       either-way (allZero (lineBytes (putGroup (b .rows .bytes) (blockPlace (b .line) + byteOf (t .group)) (t .value)) (b .line)))
       (moves false true (refl, refl)) (moves true false (refl, refl))
 
-  write1-way : (l hand j : ℕ) (r : Rows) → Way t h true Leaf (writeUnder1 l hand j t r)
+  write1-way : (shape : Shape) (j : ℕ) (r : Rows) → Way t h true Leaf (writeUnder1 shape j t r)
   unfolding writeUnder1
-  write1-way l hand j r =
-      let b = bringIn l hand (leafOf (t .group)) r in
-      either-way (ltb (b .line) l)
+  write1-way shape j r =
+      let b = bringIn shape (leafOf (t .group)) r in
+      either-way (ltb (b .line) (shape .l))
       (either-way (eqb (groupIn (b .rows .bytes) (b .line) (t .group)) (t .value)) (moves true false (refl, refl)) (putIn-way j b))
       (refused 4 refl)
 
-  write0-way : (l hand j : ℕ) (r : Rows) → Way t h true Leaf (writeUnder0 l hand j t r)
+  write0-way : (shape : Shape) (j : ℕ) (r : Rows) → Way t h true Leaf (writeUnder0 shape j t r)
   unfolding writeUnder0
-  write0-way l hand j r =
+  write0-way shape j r =
       either-way (eqb (t .value) 0) (moves true false (refl, refl))
-      (either-way (ltb (lineOf (r .lines) l (leafOf (t .group))) l) (moves false false (refl, refl))
-      (either-way (ltb (placeLine l hand (r .lines) (r .bytes)) l) (moves false false (refl, refl)) (refused 4 refl)))
+      (either-way (ltb (lineOf (r .lines) (shape .l) (leafOf (t .group))) (shape .l)) (moves false false (refl, refl))
+      (either-way (ltb (placeLine shape (r .lines) (r .bytes)) (shape .l)) (moves false false (refl, refl)) (refused 4 refl)))
 
-  leafWrite-way : (l hand j : ℕ) (r : Rows) → Way t h true Leaf (leafWrite l hand j t r)
+  leafWrite-way : (shape : Shape) (j : ℕ) (r : Rows) → Way t h true Leaf (leafWrite shape j t r)
   unfolding leafWrite
-  leafWrite-way l hand j r = either-way (eqb (bitIn (r .bytes) j (t .group)) 0) (write0-way l hand j r) (write1-way l hand j r)
+  leafWrite-way shape j r = either-way (eqb (bitIn (r .bytes) j (t .group)) 0) (write0-way shape j r) (write1-way shape j r)
 
-module _ (n l hand x : ℕ) (t : Tracker) (r : Rows) where
-  held-way : (h w : Bool) (r' : Turned) → Way t false w Map r' → Way t h w Map (pick h (Step.waits t hand r) r')
+module _ (shape : Shape) (x : ℕ) (t : Tracker) (r : Rows) where
+  held-way : (h w : Bool) (r' : Turned) → Way t false w Map r' → Way t h w Map (pick h (Step.waits t shape r) r')
   held-way true w r' v = moves false false (refl, refl)
   held-way false w r' v = v
 
-  map-way : (w : Bool) → Way t (lockHeld n l (r .lines) (t .group)) w Map (map n l hand x t r)
+  map-way : (w : Bool) → Way t (lockHeld shape (r .lines) (t .group)) w Map (map shape x t r)
   unfolding map
   map-way w =
-      let b = bringIn l hand (mapBlock n (t .group)) r in
-      held-way (lockHeld n l (r .lines) (t .group)) w _ (either-way (ltb (b .line) l) (onMap-way t false w x b) (refused 4 refl))
+      let b = bringIn shape (mapBlock (shape .n) (t .group)) r in
+      held-way (lockHeld shape (r .lines) (t .group)) w _ (either-way (ltb (b .line) (shape .l)) (onMap-way t false w x b) (refused 4 refl))
 
-  leaf-way : (h w : Bool) (j : ℕ) → Way t h w Leaf (pick w (leafWrite l hand j t r) (leafRead l hand j t r))
-  leaf-way h true j = leafWrite-way t h true l hand j r
-  leaf-way h false j = leafRead-way t h false l hand j r
+  leaf-way : (h w : Bool) (j : ℕ) → Way t h w Leaf (pick w (leafWrite shape j t r) (leafRead shape j t r))
+  leaf-way h true j = leafWrite-way t h true shape j r
+  leaf-way h false j = leafRead-way t h false shape j r
 
-  finish-way : (h w : Bool) (j bit : ℕ) (p : Phase) → rule h true false w p ≡ ends → Way t h w p (finish n hand j bit t r)
+  finish-way : (h w : Bool) (j bit : ℕ) (p : Phase) → rule h true false w p ≡ ends → Way t h w p (finish shape j bit t r)
   unfolding finish
   finish-way h w j bit p e = moves true false (rw e (refl, refl))
 
-  holding-way : (h : Bool) (j : ℕ) (p : Phase) → Way t h (t .write) p (holding n l hand j t r p)
+  holding-way : (h : Bool) (j : ℕ) (p : Phase) → Way t h (t .write) p (holding shape j t r p)
   holding-way h j Idle = refused 8 refl
   holding-way h j Probe = refused 8 refl
   holding-way h j Map = refused 8 refl
@@ -115,19 +118,19 @@ module _ (n l hand x : ℕ) (t : Tracker) (r : Rows) where
   holding-way h j Set = finish-way h (t .write) j 1 Set refl
   holding-way h j Clear = finish-way h (t .write) j 0 Clear refl
 
-  inLine-way : (h : Bool) (p : Phase) → Way t h (t .write) p (inLine n l hand t r p)
+  inLine-way : (h : Bool) (p : Phase) → Way t h (t .write) p (inLine shape t r p)
   unfolding inLine
-  inLine-way h p = let j = lineOf (r .lines) l (mapBlock n (t .group)) in either-way (ltb j l) (holding-way h j p) (refused 4 refl)
+  inLine-way h p = let j = lineOf (r .lines) (shape .l) (mapBlock (shape .n) (t .group)) in either-way (ltb j (shape .l)) (holding-way h j p) (refused 4 refl)
 
-  phase-way : (p : Phase) → Way t (lockHeld n l (r .lines) (t .group)) (t .write) p (byPhase n l hand x t r p)
+  phase-way : (p : Phase) → Way t (lockHeld shape (r .lines) (t .group)) (t .write) p (byPhase shape x t r p)
   phase-way Idle = refused 8 refl
-  phase-way Probe = probe-way t (lockHeld n l (r .lines) (t .group)) (t .write) l hand r
+  phase-way Probe = probe-way t (lockHeld shape (r .lines) (t .group)) (t .write) shape r
   phase-way Map = map-way (t .write)
-  phase-way Leaf = inLine-way (lockHeld n l (r .lines) (t .group)) Leaf
-  phase-way Set = inLine-way (lockHeld n l (r .lines) (t .group)) Set
-  phase-way Clear = inLine-way (lockHeld n l (r .lines) (t .group)) Clear
+  phase-way Leaf = inLine-way (lockHeld shape (r .lines) (t .group)) Leaf
+  phase-way Set = inLine-way (lockHeld shape (r .lines) (t .group)) Set
+  phase-way Clear = inLine-way (lockHeld shape (r .lines) (t .group)) Clear
 
   -- The step is refused, or is a move of the table.
-  pub turn-way : Way t (lockHeld n l (r .lines) (t .group)) (t .write) (t .phase) (turnOf n l hand x t r)
+  pub turn-way : Way t (lockHeld shape (r .lines) (t .group)) (t .write) (t .phase) (turnOf shape x t r)
   unfolding turnOf
-  turn-way = either-way (fit n l x t r) (either-way (lengthsRight n l (r .bytes) (r .memory)) (phase-way (t .phase)) (refused 2 refl)) (refused 4 refl)
+  turn-way = either-way (fit shape x t r) (either-way (lengthsRight shape (r .bytes) (r .memory)) (phase-way (t .phase)) (refused 2 refl)) (refused 4 refl)

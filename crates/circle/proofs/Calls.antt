@@ -31,10 +31,10 @@ bare (lends b m c) = bare c
 
 pub data Outcome (k : Kept) : Call → Out → Type 0 where
   refused : {c : Call} {o : Out} (r : ℕ) → o .said ≡ no r → kept o ≡ k → Outcome k c o
-  issued : (x : ℕ) (access : Access) → x < k .state .t → isIdle (trackerIn k x) ≡ true
+  issued : (x : ℕ) (access : Access) → x < k .state .shape .t → isIdle (trackerIn k x) ≡ true
       → does k (issues x access) ≡ accepted (withTracker (k .state) x (Tracker.issued access)) (k .bytes) (k .memory)
       → Outcome k (issues x access) (does k (issues x access))
-  stepped : (x : ℕ) → x < k .state .t → isIdle (trackerIn k x) ≡ false → Outcome k (steps x) (does k (steps x))
+  stepped : (x : ℕ) → x < k .state .shape .t → isIdle (trackerIn k x) ≡ false → Outcome k (steps x) (does k (steps x))
   drained : (lines memory : List ℕ) → allIdle (k .state) ≡ true → does k drains ≡ accepted (withLines (k .state) lines) (k .bytes) memory → Outcome k drains (does k drains)
 
 -- a call refused in a state that it leaves, with other bytes lent
@@ -54,7 +54,7 @@ wrong k w e (issues x access) = rw (w, e) (record { number = 2; said-it = refl; 
 wrong k w e (steps x) = rw (w, e) (record { number = 2; said-it = refl; state-is = refl })
 wrong k w e drains = rw (w, e) (record { number = 2; said-it = refl; state-is = refl })
 wrong k w e (lends b m c) =
-    lent-refuses k (lengthsRight (k .state .n) (k .state .l) b m) (does k c) (does (record { state = k .state; bytes = b; memory = m }) c) (wrong k w e c)
+    lent-refuses k (lengthsRight (k .state .shape) b m) (does k c) (does (record { state = k .state; bytes = b; memory = m }) c) (wrong k w e c)
     (λ f. let v = wrong (record { state = k .state; bytes = b; memory = m }) w f c in record { number = v .number; said-it = v .said-it; state-is = v .state-is })
 
 module _ (k : Kept) (s : Ready k) where
@@ -67,14 +67,14 @@ module _ (k : Kept) (s : Ready k) where
       ⊎-elim (λ e. let h = issue-free (k .state) (k .bytes) (k .memory) (s .0) (s .1) x access e in
       issued x access (h .0) (h .2) (issue-accepted (k .state) (k .bytes) (k .memory) (s .0) (s .1) x access e))
       (λ h. rw (issue-refused (k .state) (k .bytes) (k .memory) (s .0) (s .1) x access h) (refused-out (issues x access) _))
-      (refused-or-not (refusal (issueTests (k .state .n) (k .state .t) x access (k .state .trackers))))
+      (refused-or-not (refusal (issueTests (k .state .shape) x access (k .state .trackers))))
 
   step-outcome : (x : ℕ) → Outcome k (steps x) (does k (steps x))
   unfolding does
   step-outcome x =
       ⊎-elim (λ e. let h = step-free (k .state) (k .bytes) (k .memory) (s .0) (s .1) x e in stepped x (h .0) (h .1))
       (λ h. rw (step-refused (k .state) (k .bytes) (k .memory) (s .0) (s .1) x h) (refused-out (steps x) _))
-      (refused-or-not (refusal (stepTests (k .state .t) x (k .state .trackers))))
+      (refused-or-not (refusal (stepTests (k .state .shape) x (k .state .trackers))))
 
   drain-outcome : Outcome k drains (does k drains)
   unfolding does
@@ -94,7 +94,7 @@ module _ (k : Kept) (s : Ready k) where
   outcome (steps x) = step-outcome x
   outcome drains = drain-outcome
   outcome (lends b m c) =
-      lent-outcome b m c (lengthsRight (k .state .n) (k .state .l) b m) (does k c) (does (record { state = k .state; bytes = b; memory = m }) c) (outcome c)
+      lent-outcome b m c (lengthsRight (k .state .shape) b m) (does k c) (does (record { state = k .state; bytes = b; memory = m }) c) (outcome c)
       (λ f. let v = wrong (record { state = k .state; bytes = b; memory = m }) (s .0) f c in record { number = v .number; said-it = v .said-it; state-is = v .state-is })
 
 -- `ok` is no refusal

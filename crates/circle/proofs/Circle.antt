@@ -19,8 +19,8 @@ trackerIn k x = trackerAt (k .state .trackers) x
 -- `given x`, the turns that the access at tracker x was given since its issue, and `under x`, whether it was issued under this circle.
 pub data Circle (t : ℕ) (o : Order t) : Kept → ℕ → (given : ℕ → ℕ) → (under : ℕ → Bool) → Type 0 where
   -- It may begin in any whole state of T trackers with lengths that are right, at any place. Accesses may be under way; none of them is under this circle.
-  begins : (k : Kept) (i : ℕ) (given : ℕ → ℕ) → k .state .t ≡ t → whole (k .state) ≡ true
-      → lengthsRight (k .state .n) (k .state .l) (k .bytes) (k .memory) ≡ true → i < t → Circle t o k i given (λ x. false)
+  begins : (k : Kept) (i : ℕ) (given : ℕ → ℕ) → k .state .shape .t ≡ t → whole (k .state) ≡ true
+      → lengthsRight (k .state .shape) (k .bytes) (k .memory) ≡ true → i < t → Circle t o k i given (λ x. false)
   -- The tracker at the place is busy: it is given a turn, and the next place comes.
   turned : {k : Kept} {i : ℕ} {given : ℕ → ℕ} {under : ℕ → Bool} → Circle t o k i given under → isIdle (trackerIn k (o .tracker i)) ≡ false
       → Circle t o (kept (does k (steps (o .tracker i)))) (next t i) (becomes given (o .tracker i) (suc (given (o .tracker i)))) under

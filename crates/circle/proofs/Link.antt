@@ -8,6 +8,8 @@ use native.Mathlib.Decide.{ℕ-discrete}
 use lib.ListN.{length, set}
 use lib.Seq.{getD-set-same, getD-set-other}
 use Rattle.laws.proofs.Choice.{not-both-ways, true-or-false}
+use Rattle.geometry.specs.declared.Shape.{Shape}
+use Rattle.geometry.specs.Shape.{atHand}
 use Rattle.tracker.specs.declared.Phase.{Phase}
 use Rattle.tracker.specs.declared.Phase.the-variants.{Idle, Probe, Map, Leaf, Set, Clear}
 use Rattle.tracker.specs.declared.Tracker.{Tracker}
@@ -19,7 +21,7 @@ use Rattle.rules.specs.Step.{Turned, turnOf}
 use Rattle.rules.specs.Calls.{Out, stepped}
 use Rattle.rules.specs.Run.{steps, Kept, kept, does}
 use Rattle.rules.proofs.Another.{Another}
-use Rattle.rules.proofs.Calls.{step-is}
+use Rattle.rules.proofs.Calls.{step-is, step-sound}
 use Rattle.circle.specs.Table.{Move, waits, to, ends, rule}
 use Rattle.circle.proofs.Ending.{Ending}
 use Rattle.circle.proofs.Circle.{trackerIn}
@@ -28,12 +30,12 @@ use Rattle.circle.proofs.Ready.{Ready, long, never-refused, another, no
 
 -- one tracker made anew, the others as they were
 pub record Anew (k k' : Kept) (x : ℕ) (t : Tracker) : Type 0 where
-  pub leaves : k' .state .n ≡ k .state .n
-  pub count : k' .state .t ≡ k .state .t
+  pub leaves : k' .state .shape .n ≡ k .state .shape .n
+  pub count : k' .state .shape .t ≡ k .state .shape .t
   pub own : trackerIn k' x ≡ t
   pub other : (y : ℕ) → y ≢ x → trackerIn k' y ≡ trackerIn k y
 
-pub anew : (k k' : Kept) (x : ℕ) (t : Tracker) → Ready k → x < k .state .t → k' .state .n ≡ k .state .n → k' .state .t ≡ k .state .t
+pub anew : (k k' : Kept) (x : ℕ) (t : Tracker) → Ready k → x < k .state .shape .t → k' .state .shape .n ≡ k .state .shape .n → k' .state .shape .t ≡ k .state .shape .t
     → k' .state .trackers ≡ set (k .state .trackers) x t → Anew k k' x t
 anew k k' x t s h n c e = record {
   leaves = n;
@@ -58,30 +60,34 @@ pub record Stepped (k : Kept) (x : ℕ) : Type 0 where
   pub left : Tracker
   pub by-rule : Moved (trackerIn k x) (rule held quit empty (trackerIn k x .write) (trackerIn k x .phase)) (does k (steps x) .said) left
   pub made : Anew k (kept (does k (steps x))) x left
-  pub held-is : trackerIn k x .phase ≡ Map → held ≡ true → Another (k .state) x (mapBlock (k .state .n) (trackerIn k x .group))
-  pub free-is : trackerIn k x .phase ≡ Map → held ≡ false → Another (k .state) x (mapBlock (k .state .n) (trackerIn k x .group)) → ⊥
+  pub held-is : trackerIn k x .phase ≡ Map → held ≡ true → Another (k .state) x (mapBlock (k .state .shape .n) (trackerIn k x .group))
+  pub free-is : trackerIn k x .phase ≡ Map → held ≡ false → Another (k .state) x (mapBlock (k .state .shape .n) (trackerIn k x .group)) → ⊥
 
-module _ (k : Kept) (s : Ready k) (x : ℕ) (h : x < k .state .t) (b : isIdle (trackerIn k x) ≡ false) where
+module _ (k : Kept) (s : Ready k) (x : ℕ) (h : x < k .state .shape .t) (b : isIdle (trackerIn k x) ≡ false) where
   abbrev turned : Turned
-  turned = turnOf (k .state .n) (k .state .l) (k .state .hand) x (trackerIn k x) (record { lines = k .state .lines; bytes = k .bytes; memory = k .memory })
+  turned = turnOf (k .state .shape) x (trackerIn k x) (record { lines = k .state .lines; bytes = k .bytes; memory = k .memory })
 
   is-turned : does k (steps x) ≡ stepped (k .state) x turned
   unfolding does
   is-turned = step-is (k .state) (k .bytes) (k .memory) (s .0) (s .1) x h b
 
+  same-shape : does k (steps x) .state .shape ≡ atHand (k .state .shape) (does k (steps x) .state .shape .hand)
+  unfolding does
+  same-shape = step-sound (k .state) (k .bytes) (k .memory) (s .0) (s .1) x h b .is-shape
+
   pub by-table : Stepped k x
-  by-table = at (turn-way (k .state .n) (k .state .l) (k .state .hand) x (trackerIn k x) (record { lines = k .state .lines; bytes = k .bytes; memory = k .memory }))
+  by-table = at (turn-way (k .state .shape) x (trackerIn k x) (record { lines = k .state .lines; bytes = k .bytes; memory = k .memory }))
     where
-      at : Way (trackerIn k x) (lockHeld (k .state .n) (k .state .l) (k .state .lines) (trackerIn k x .group)) (trackerIn k x .write) (trackerIn k x .phase) turned → Stepped k x
+      at : Way (trackerIn k x) (lockHeld (k .state .shape) (k .state .lines) (trackerIn k x .group)) (trackerIn k x .write) (trackerIn k x .phase) turned → Stepped k x
       at (refused c e) = absurd (never-refused k s x c h b (ap (λ (o : Out). o .said) is-turned ∙ e))
       at (moves quit empty m) = record {
-        held = lockHeld (k .state .n) (k .state .l) (k .state .lines) (trackerIn k x .group);
+        held = lockHeld (k .state .shape) (k .state .lines) (trackerIn k x .group);
         quit = quit;
         empty = empty;
         left = turned .tracker;
         by-rule = rw (ap (λ (o : Out). o .said) is-turned) m;
         made =
-            anew k (kept (does k (steps x))) x (turned .tracker) s h (ap (λ (o : Out). o .state .n) is-turned) (ap (λ (o : Out). o .state .t) is-turned)
+            anew k (kept (does k (steps x))) x (turned .tracker) s h (ap (λ (z : Shape). z .n) same-shape) (ap (λ (z : Shape). z .t) same-shape)
             (ap (λ (o : Out). o .state .trackers) is-turned);
         held-is = another k s x;
         free-is = nobody k s x;
@@ -141,14 +147,14 @@ said-waits t t' waits said h e = refl
 said-waits t t' (to p) said h e = absurd (let q : moved ≡ wait = sym (h .0) ∙ e in let z : _≡_ {A = ℕ} 0 1 = cc in omega arith)
 said-waits t t' ends said h e = absurd (subst (λ (a : Said). Ending a (tick (t .turns))) e (h .0))
 
-module _ (k : Kept) (s : Ready k) (x : ℕ) (h : x < k .state .t) (b : isIdle (trackerIn k x) ≡ false) where
-  pub wait-held : does k (steps x) .said ≡ wait → (trackerIn k x .phase ≡ Map) × Another (k .state) x (mapBlock (k .state .n) (trackerIn k x .group))
+module _ (k : Kept) (s : Ready k) (x : ℕ) (h : x < k .state .shape .t) (b : isIdle (trackerIn k x) ≡ false) where
+  pub wait-held : does k (steps x) .said ≡ wait → (trackerIn k x .phase ≡ Map) × Another (k .state) x (mapBlock (k .state .shape .n) (trackerIn k x .group))
   wait-held e =
       let r = by-table k s x h b in
       let q = rule-waits (r .held) (r .quit) (r .empty) (trackerIn k x .write) (trackerIn k x .phase) (said-waits (trackerIn k x) (r .left) _ (does k (steps x) .said) (r .by-rule) e) in
       (q .0, r .held-is (q .0) (q .1))
 
-  pub held-waits : trackerIn k x .phase ≡ Map → Another (k .state) x (mapBlock (k .state .n) (trackerIn k x .group)) → does k (steps x) .said ≡ wait
+  pub held-waits : trackerIn k x .phase ≡ Map → Another (k .state) x (mapBlock (k .state .shape .n) (trackerIn k x .group)) → does k (steps x) .said ≡ wait
   held-waits at-map a = at (true-or-false (r .held))
     where
       r : Stepped k x

@@ -39,7 +39,7 @@ abbrev accessOf : ℕ → Tracker → UnderWay Phase
 accessOf n t = record { at = t .phase; write = t .write; lock = mapBlock n (t .group) }
 
 abbrev accesses : Kept → ℕ → UnderWay Phase
-accesses k x = accessOf (k .state .n) (trackerIn k x)
+accesses k x = accessOf (k .state .shape .n) (trackerIn k x)
 
 -- what rests is idle
 busy-stands : (write : Bool) (p : Phase) → isIdleAt p ≡ false → stand write p ≢ rests
@@ -93,12 +93,12 @@ module _ (M : ℕ) (o : Order (suc M)) where
   -- what the circle keeps
   record Keeps (k : Kept) (i : ℕ) (given : ℕ → ℕ) (under : ℕ → Bool) : Type 0 where
     ready : Ready k
-    count : k .state .t ≡ suc M
+    count : k .state .shape .t ≡ suc M
     due : ℕ → ℕ
     promises : Levels.Promises 1 twoLevels M o (accesses k) given due i
     known : (x : ℕ) → KnownAt under due given x (trackerIn k x)
 
-  keeps-begin : (k : Kept) (i : ℕ) (given : ℕ → ℕ) → k .state .t ≡ suc M → Ready k → i < suc M → Keeps k i given (λ x. false)
+  keeps-begin : (k : Kept) (i : ℕ) (given : ℕ → ℕ) → k .state .shape .t ≡ suc M → Ready k → i < suc M → Keeps k i given (λ x. false)
   keeps-begin k i given c s h = record {
     ready = s;
     count = c;
@@ -108,7 +108,7 @@ module _ (M : ℕ) (o : Order (suc M)) where
   }
 
   module _ (k : Kept) (i : ℕ) (given : ℕ → ℕ) (under : ℕ → Bool) (K : Keeps k i given under) where
-    below : (x : ℕ) → x < suc M → x < k .state .t
+    below : (x : ℕ) → x < suc M → x < k .state .shape .t
     below x h = let c = K .count in omega arith
 
     keeps-over : isIdle (trackerIn k (o .tracker i)) ≡ true → Keeps k (next (suc M) i) given under
@@ -125,7 +125,7 @@ module _ (M : ℕ) (o : Order (suc M)) where
     issue-at o' x access (Calls.refused r q z) e = absurd (ok-not-no (sym e ∙ q))
     issue-at o' x access (Calls.issued x' access' p q is) e =
         let l : x < suc M = let c = K .count in omega arith in
-        (l, q, anew k (kept o') x (Tracker.issued access) (K .ready) p (ap (λ (a : Out). a .state .n) is) (ap (λ (a : Out). a .state .t) is) (ap (λ (a : Out). a .state .trackers) is))
+        (l, q, anew k (kept o') x (Tracker.issued access) (K .ready) p (ap (λ (a : Out). a .state .shape .n) is) (ap (λ (a : Out). a .state .shape .t) is) (ap (λ (a : Out). a .state .trackers) is))
 
     keeps-issue : (x : ℕ) (access : Access) → does k (issues x access) .said ≡ ok
         → Keeps (kept (does k (issues x access))) i (becomes given x 0) (becomes under x true)
@@ -134,7 +134,7 @@ module _ (M : ℕ) (o : Order (suc M)) where
       count = a .count ∙ K .count;
       due = due';
       promises =
-          promises-issue 1 twoLevels M o (accesses k) (accesses k') given (becomes given x 0) (K .due) due' i x (mapBlock (k .state .n) (access .group)) (access .write) (access .bottom) (K .promises) hx
+          promises-issue 1 twoLevels M o (accesses k) (accesses k') given (becomes given x 0) (K .due) due' i x (mapBlock (k .state .shape .n) (access .group)) (access .write) (access .bottom) (K .promises) hx
           (idle-rests (trackerIn k x .write) (trackerIn k x .phase) (r .1)) (rw (a .leaves, a .own) refl) (becomes-same given x 0) (becomes-same (K .due) x last)
           (λ y ne. (rw (a .leaves, a .other y ne) refl, becomes-other given x y 0 ne, becomes-other (K .due) x y last ne));
       known = each (KnownAt (becomes under x true) due' (becomes given x 0)) k k' x (Tracker.issued access) a
@@ -169,7 +169,7 @@ module _ (M : ℕ) (o : Order (suc M)) where
       promises =
           promises-turn 1 twoLevels M o (accesses k) (accesses k') given given' (K .due) i (r .held) m (K .promises)
           (busy-stands (t .write) (t .phase) busy) (fits (r .held) (r .quit) (r .empty) (t .write) (t .phase))
-          (rw (a .leaves, a .own) (left-of (k .state .n) t (r .left) m (does k (steps x) .said) (r .by-rule)))
+          (rw (a .leaves, a .own) (left-of (k .state .shape .n) t (r .left) m (does k (steps x) .said) (r .by-rule)))
           holder free (becomes-same given x (suc (given x)))
           (λ y ne. (rw (a .leaves, a .other y ne) refl, becomes-other given x y (suc (given x)) ne, refl));
       known = each (KnownAt under (K .due) given') k k' x (r .left) a own
@@ -201,17 +201,17 @@ module _ (M : ℕ) (o : Order (suc M)) where
         m = rule (r .held) (r .quit) (r .empty) (t .write) (t .phase)
 
         holder : stand (t .write) (t .phase) ≡ before 0 → r .held ≡ true
-            → (y : ℕ) × (y < suc M) × (y ≢ x) × Levels.Has 1 twoLevels M (accesses k y) (mapBlock (k .state .n) (t .group))
+            → (y : ℕ) × (y < suc M) × (y ≢ x) × Levels.Has 1 twoLevels M (accesses k y) (mapBlock (k .state .shape .n) (t .group))
         holder z h =
             let q = r .held-is (asks-map (t .write) (t .phase) z) h in
             let l : q .who < suc M = let e = q .who-lt in let c = K .count in omega arith in
-            (q .who, l, q .not-x, holds-has (k .state .n) (trackerIn k (q .who)) (mapBlock (k .state .n) (t .group)) (q .holds-it))
+            (q .who, l, q .not-x, holds-has (k .state .shape .n) (trackerIn k (q .who)) (mapBlock (k .state .shape .n) (t .group)) (q .holds-it))
 
         free : stand (t .write) (t .phase) ≡ before 0 → r .held ≡ false
-            → (y : ℕ) → y < suc M → y ≢ x → Levels.Has 1 twoLevels M (accesses k y) (mapBlock (k .state .n) (t .group)) → ⊥
+            → (y : ℕ) → y < suc M → y ≢ x → Levels.Has 1 twoLevels M (accesses k y) (mapBlock (k .state .shape .n) (t .group)) → ⊥
         free z h y hy ne q =
             r .free-is (asks-map (t .write) (t .phase) z) h
-            (record { who = y; who-lt = below y hy; not-x = ne; holds-it = has-holds (k .state .n) (trackerIn k y) (mapBlock (k .state .n) (t .group)) q })
+            (record { who = y; who-lt = below y hy; not-x = ne; holds-it = has-holds (k .state .shape .n) (trackerIn k y) (mapBlock (k .state .shape .n) (t .group)) q })
 
         own : KnownAt under (K .due) given' x (r .left)
         own h u b =
@@ -223,7 +223,7 @@ module _ (M : ℕ) (o : Order (suc M)) where
             }
 
     -- the same trackers
-    keeps-same : (k' : Kept) → Ready k' → k' .state .n ≡ k .state .n → k' .state .t ≡ k .state .t → k' .state .trackers ≡ k .state .trackers → Keeps k' i given under
+    keeps-same : (k' : Kept) → Ready k' → k' .state .shape .n ≡ k .state .shape .n → k' .state .shape .t ≡ k .state .shape .t → k' .state .trackers ≡ k .state .trackers → Keeps k' i given under
     keeps-same k' s n c e = record {
       ready = s;
       count = c ∙ K .count;
@@ -235,12 +235,12 @@ module _ (M : ℕ) (o : Order (suc M)) where
         same : accesses k ≡ accesses k'
         same =
             sym (ap (λ (n : ℕ). λ (y : ℕ). accessOf n (trackerIn k' y)) n
-            ∙ ap (λ (ts : List Tracker). λ (y : ℕ). accessOf (k .state .n) (trackerAt ts y)) e)
+            ∙ ap (λ (ts : List Tracker). λ (y : ℕ). accessOf (k .state .shape .n) (trackerAt ts y)) e)
 
     drain-at : (o' : Out) → Outcome k drains o' → o' .said ≡ ok → Ready (kept o') → Keeps (kept o') i given under
     drain-at o' (Calls.refused r q z) e s = absurd (ok-not-no (sym e ∙ q))
     drain-at o' (Calls.drained lines memory q is) e s =
-        keeps-same (kept o') s (ap (λ (a : Out). a .state .n) is) (ap (λ (a : Out). a .state .t) is) (ap (λ (a : Out). a .state .trackers) is)
+        keeps-same (kept o') s (ap (λ (a : Out). a .state .shape .n) is) (ap (λ (a : Out). a .state .shape .t) is) (ap (λ (a : Out). a .state .trackers) is)
 
   keeps : {k : Kept} {i : ℕ} {given : ℕ → ℕ} {under : ℕ → Bool} → Circle (suc M) o k i given under → Keeps k i given under
   keeps (begins k i given c w l h) = keeps-begin k i given c (w, l) h

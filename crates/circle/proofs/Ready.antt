@@ -7,6 +7,7 @@ use lib.ListN.{length}
 use borrow.Author.Tests.{ltb-true, lt-ltb}
 use Rattle.laws.proofs.Choice.{not-both-ways, both-left, both-right, both-true}
 use Rattle.laws.proofs.Splice.{lt-or-ge}
+use Rattle.geometry.specs.declared.Shape.{Shape}
 use Rattle.tracker.specs.declared.Access.{Access}
 use Rattle.tracker.specs.declared.Phase.the-variants.{Map}
 use Rattle.tracker.specs.Tracker.{isIdle, holdsAt}
@@ -25,47 +26,47 @@ use Rattle.circle.proofs.ByTable.{lockHeld}
 
 -- the lengths are right
 abbrev pub right : Kept → Bool
-right k = lengthsRight (k .state .n) (k .state .l) (k .bytes) (k .memory)
+right k = lengthsRight (k .state .shape) (k .bytes) (k .memory)
 
 abbrev pub Ready : Kept → Type 0
 Ready k = (whole (k .state) ≡ true) × (right k ≡ true)
 
-ready-out : (n t l : ℕ) (o : Out) → Calls.Sound n t l o → Ready (kept o)
-ready-out n t l o h = (h .is-whole, rw (h .n-is, h .l-is) (h .right))
+ready-out : (shape : Shape) (o : Out) → Calls.Sound shape o → Ready (kept o)
+ready-out shape o h = (h .is-whole, h .right)
 
 module _ (k : Kept) (s : Ready k) where
-  pub long : k .state .t ≤ length (k .state .trackers)
+  pub long : k .state .shape .t ≤ length (k .state .trackers)
   long = whole-facts (k .state) (s .0) .tracked .long
 
   -- a busy tracker is one of the T
-  pub busy-below : (x : ℕ) → isIdle (trackerIn k x) ≡ false → x < k .state .t
-  busy-below x b = ⊎-elim (λ h. h) (λ h. absurd (not-both-ways (whole-facts (k .state) (s .0) .tracked .above x h) b)) (lt-or-ge x (k .state .t))
+  pub busy-below : (x : ℕ) → isIdle (trackerIn k x) ≡ false → x < k .state .shape .t
+  busy-below x b = ⊎-elim (λ h. h) (λ h. absurd (not-both-ways (whole-facts (k .state) (s .0) .tracked .above x h) b)) (lt-or-ge x (k .state .shape .t))
 
   pub issue-keeps : (x : ℕ) (access : Access) → Ready (kept (does k (issues x access)))
   unfolding does
-  issue-keeps x access = ready-out _ _ _ _ (issue-kept (k .state) (k .bytes) (k .memory) (s .0) (s .1) x access)
+  issue-keeps x access = ready-out _ _ (issue-kept (k .state) (k .bytes) (k .memory) (s .0) (s .1) x access)
 
   pub step-keeps : (x : ℕ) → Ready (kept (does k (steps x)))
   unfolding does
-  step-keeps x = ready-out _ _ _ _ (step-kept (k .state) (k .bytes) (k .memory) (s .0) (s .1) x)
+  step-keeps x = ready-out _ _ (step-kept (k .state) (k .bytes) (k .memory) (s .0) (s .1) x)
 
   pub drain-keeps : Ready (kept (does k drains))
   unfolding does
-  drain-keeps = ready-out _ _ _ _ (drain-kept (k .state) (k .bytes) (k .memory) (s .0) (s .1))
+  drain-keeps = ready-out _ _ (drain-kept (k .state) (k .bytes) (k .memory) (s .0) (s .1))
 
   -- A busy tracker's step is never refused.
-  pub never-refused : (x c : ℕ) → x < k .state .t → isIdle (trackerIn k x) ≡ false → does k (steps x) .said ≡ no c → ⊥
+  pub never-refused : (x c : ℕ) → x < k .state .shape .t → isIdle (trackerIn k x) ≡ false → does k (steps x) .said ≡ no c → ⊥
   unfolding does
   never-refused x c h b e = not-both-ways (ap isNo e) (step-not-refused (k .state) (k .bytes) (k .memory) (s .0) (s .1) x h b)
 
   -- At Map: the map block's line names a holder exactly if another tracker holds it.
   module _ (x : ℕ) (at-map : trackerIn k x .phase ≡ Map) where
-    pub another : lockHeld (k .state .n) (k .state .l) (k .state .lines) (trackerIn k x .group) ≡ true → Another (k .state) x (mapBlock (k .state .n) (trackerIn k x .group))
+    pub another : lockHeld (k .state .shape) (k .state .lines) (trackerIn k x .group) ≡ true → Another (k .state) x (mapBlock (k .state .shape .n) (trackerIn k x .group))
     another h =
-        named-another (k .state) (whole-facts (k .state) (s .0)) x (mapBlock (k .state .n) (trackerIn k x .group)) (ap holdsAt at-map)
+        named-another (k .state) (whole-facts (k .state) (s .0)) x (mapBlock (k .state .shape .n) (trackerIn k x .group)) (ap holdsAt at-map)
         (ltb-true _ _ (both-left _ _ h)) (both-right _ _ h)
 
-    pub nobody : lockHeld (k .state .n) (k .state .l) (k .state .lines) (trackerIn k x .group) ≡ false → Another (k .state) x (mapBlock (k .state .n) (trackerIn k x .group)) → ⊥
+    pub nobody : lockHeld (k .state .shape) (k .state .lines) (trackerIn k x .group) ≡ false → Another (k .state) x (mapBlock (k .state .shape .n) (trackerIn k x .group)) → ⊥
     nobody h a =
-        let r = another-named (k .state) (whole-facts (k .state) (s .0)) x (mapBlock (k .state .n) (trackerIn k x .group)) a in
+        let r = another-named (k .state) (whole-facts (k .state) (s .0)) x (mapBlock (k .state .shape .n) (trackerIn k x .group)) a in
         not-both-ways (both-true _ _ (lt-ltb _ _ (r .0)) (r .1)) h

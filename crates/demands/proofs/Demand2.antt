@@ -159,10 +159,10 @@ pub record Resting (n : ℕ) (memory : List ℕ) (row : Row) : Type 0 where
 -- a run of the rules from the start
 module _ (t : ℕ) (k : Kept) (B : Begun t k) (cs : List Call) (v32 : Values32 cs) where
   abbrev n : ℕ
-  n = k .state .n
+  n = k .state .shape .n
 
   abbrev start : Row
-  start = plainGroup (k .state .n) (k .memory)
+  start = plainGroup (k .state .shape .n) (k .memory)
 
   abbrev es : List Event
   es = events cs (answers k cs)
@@ -210,10 +210,10 @@ module _ (t : ℕ) (k : Kept) (B : Begun t k) (cs : List Call) (v32 : Values32 c
 
   -- the memory at first
   lim : inLimits n ≡ true
-  lim = inLimits-of n (k .state .t) (k .state .l) (whole-facts (k .state) (B .agrees .is-whole) .limits-ok)
+  lim = inLimits-of (k .state .shape) (whole-facts (k .state) (B .agrees .is-whole) .limits-ok)
 
   reads-first : (g : ℕ) → g < groups n → plainReading n (k .memory) g ≡ plainGroup n (k .memory) g
-  reads-first g q = plain-is n (k .memory) g lim (memory-right n (k .state .l) (k .bytes) (k .memory) (B .agrees .right)) q
+  reads-first g q = plain-is n (k .memory) g lim (memory-right (k .state .shape) (k .bytes) (k .memory) (B .agrees .right)) q
 
   rows-are : (g p : ℕ) → g < groups n → rowAt start (λ q. w .log q .access) p g ≡ rowOf n (k .memory) (logOf w) p g
   rows-are g p l = same-at start (plainReading n (k .memory)) (λ q. w .log q .access) g p (sym (reads-first g l))
@@ -232,8 +232,8 @@ module _ (t : ℕ) (k : Kept) (B : Begun t k) (cs : List Call) (v32 : Values32 c
 
   pub resting : AtRest es → Resting n (ended k cs .memory) (run .last)
   resting r = subst (λ (m : ℕ). Resting m (ended k cs .memory) (run .last)) (run .n-is) (record {
-    limits = inLimits-of (ended k cs .state .n) (ended k cs .state .t) (ended k cs .state .l) (whole-facts (ended k cs .state) (run .ok-still .is-whole) .limits-ok);
-    long = memory-right (ended k cs .state .n) (ended k cs .state .l) (ended k cs .bytes) (ended k cs .memory) (run .ok-still .right);
+    limits = inLimits-of (ended k cs .state .shape) (whole-facts (ended k cs .state) (run .ok-still .is-whole) .limits-ok);
+    long = memory-right (ended k cs .state .shape) (ended k cs .bytes) (ended k cs .memory) (run .ok-still .right);
     is-true = reads-true (run .ok-still .agrees) (λ x. idle x (r .idle x)) (λ i _. quiet .clean i);
     reads = reads-row (run .ok-still .agrees) (λ x. idle x (r .idle x)) (λ i _. quiet .clean i);
   })
@@ -269,7 +269,7 @@ pub extends : (t : ℕ) (k : Kept) → Begun t k → (cs ds : List Call) → Val
 extends t k B cs ds v =
     let z : 0 + length (given k cs) ≡ length cs = omega (arith, length-given k cs) in
     let h = subst (λ (gs : List Given). History (seen t k B (cs ++ ds) v) 0 (flatOf k) gs) (given-then cs ds k) (history t k B (cs ++ ds) v) in
-    let e = onto-after (seen t k B (cs ++ ds) v) (k .state .n) (plainGroup (k .state .n) (k .memory)) (given k cs) (given (ended k cs) ds) (flatOf k) nothingYet 0 (at-first t k B (cs ++ ds) v) h in
+    let e = onto-after (seen t k B (cs ++ ds) v) (k .state .shape .n) (plainGroup (k .state .shape .n) (k .memory)) (given k cs) (given (ended k cs) ds) (flatOf k) nothingYet 0 (at-first t k B (cs ++ ds) v) h in
     subst (λ (gs : List Given). Extends (length cs) (logOf (logged k cs)) (logOf (watched 0 (flatOf k) nothingYet gs))) (sym (given-then cs ds k))
     (subst (λ (m : ℕ). Extends m (logOf (logged k cs)) (logOf (watched 0 (flatOf k) nothingYet (given k cs ++ given (ended k cs) ds)))) z e)
 
@@ -279,8 +279,8 @@ demand-2 t s b m start = (
   λ cs. logOf (logged (keptOf s b m) cs),
   λ s' b' m' cs list p.
       let k = keptOf s b m in
-      subst (λ (z : List Said). OneRow (s .n) m (events cs z) m' (logOf (logged k cs))) (sym (session-says p))
-      (subst (λ (z : Kept). OneRow (s .n) m (events cs (answers k cs)) (z .memory) (logOf (logged k cs))) (sym (session-leaves p))
+      subst (λ (z : List Said). OneRow (s .shape .n) m (events cs z) m' (logOf (logged k cs))) (sym (session-says p))
+      (subst (λ (z : Kept). OneRow (s .shape .n) m (events cs (answers k cs)) (z .memory) (logOf (logged k cs))) (sym (session-leaves p))
       (one-row t k (begun t s b m start) cs (session-values p))),
   λ s' b' m' cs ds list p. extends t (keptOf s b m) (begun t s b m start) cs ds (session-values p),
 )

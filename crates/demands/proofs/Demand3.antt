@@ -43,7 +43,7 @@ module _ (t : ℕ) (o : Order t) where
   going-of {i = i} {notes = notes} (under {s0 = s0} {s1 = s1} {b0 = b0} {m0 = m0} {b1 = b1} {m1 = m1} {before = before} {cs = cs} {answers0 = list} {i0 = i0} start first h session goes) =
       subst (λ (k : Kept). Going t o k i notes) (sym (session-leaves session)) (going t o goes cs (keptOf s1 b1 m1) (seen-of session)
       (going-begins t o (keptOf s1 b1 m1) i0 (notedFrom none (events before (said list))) (busyAfter (events before (said list))) (busy-run (events before (said list)) none (λ y. false) (λ y. refl)) N
-      (ap (λ (k : Kept). k .state .t) (session-leaves first) ∙ run-count (keptOf s0 b0 m0) none (at-first t (keptOf s0 b0 m0) B) before ∙ B .count) h))
+      (ap (λ (k : Kept). k .state .shape .t) (session-leaves first) ∙ run-count (keptOf s0 b0 m0) none (at-first t (keptOf s0 b0 m0) B) before ∙ B .count) h))
     where
       B : Begun t (keptOf s0 b0 m0)
       B = begun t s0 b0 m0 start

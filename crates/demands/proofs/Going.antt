@@ -28,16 +28,16 @@ use Rattle.demands.specs.Demand3.{InTime}
 use Rattle.demands.proofs.Noted.{True, true-busy, true-idle, Turn, went, over, turn-tracker, turn-turns, event-bare, Noted, step-turn, noted-call}
 
 -- no call changes the number of trackers
-call-count : (k : Kept) → Ready k → (c : Call) → kept (does k c) .state .t ≡ k .state .t
+call-count : (k : Kept) → Ready k → (c : Call) → kept (does k c) .state .shape .t ≡ k .state .shape .t
 call-count k s c = at (bare c) (does k c) (outcome k s c)
   where
-    at : (c' : Call) (o : Out) → Outcome k c' o → o .state .t ≡ k .state .t
-    at c' o (Calls.refused r q z) = ap (λ (a : Kept). a .state .t) z
-    at c' o (Calls.issued x access h e is) = ap (λ (a : Out). a .state .t) is
+    at : (c' : Call) (o : Out) → Outcome k c' o → o .state .shape .t ≡ k .state .shape .t
+    at c' o (Calls.refused r q z) = ap (λ (a : Kept). a .state .shape .t) z
+    at c' o (Calls.issued x access h e is) = ap (λ (a : Out). a .state .shape .t) is
     at c' o (Calls.stepped x h b) = step-turn k s x h b .1 .count
-    at c' o (Calls.drained lines memory q is) = ap (λ (a : Out). a .state .t) is
+    at c' o (Calls.drained lines memory q is) = ap (λ (a : Out). a .state .shape .t) is
 
-pub run-count : (k : Kept) (notes : ℕ → Note) → Noted k notes → (cs : List Call) → ended k cs .state .t ≡ k .state .t
+pub run-count : (k : Kept) (notes : ℕ → Note) → Noted k notes → (cs : List Call) → ended k cs .state .shape .t ≡ k .state .shape .t
 unfolding ended
 run-count k notes K [] = refl
 run-count k notes K (c ∷ cs) = run-count (kept (does k c)) (noted (event c (does k c .said)) notes) (noted-call k notes K c) cs ∙ call-count k (K .ready) c
@@ -55,7 +55,7 @@ module _ (t : ℕ) (o : Order t) where
     pub circle : Circle t o k i given under
     pub is-noted : Noted k notes
     pub marked : (x : ℕ) → Marked (notes x) (given x) (under x)
-    pub count : k .state .t ≡ t
+    pub count : k .state .shape .t ≡ t
     pub place : i < t
 
   begun-true : (note : Note) (b : Bool) (u : Tracker) → isBusy note ≡ b → True note u → True (other b) u
@@ -63,7 +63,7 @@ module _ (t : ℕ) (o : Order t) where
   begun-true note false u e h = true-idle note u h e
 
   -- it may begin at any time
-  pub going-begins : (k : Kept) (i : ℕ) (notes : ℕ → Note) (busies : ℕ → Bool) → ((x : ℕ) → isBusy (notes x) ≡ busies x) → Noted k notes → k .state .t ≡ t → i < t → Going k i (λ x. other (busies x))
+  pub going-begins : (k : Kept) (i : ℕ) (notes : ℕ → Note) (busies : ℕ → Bool) → ((x : ℕ) → isBusy (notes x) ≡ busies x) → Noted k notes → k .state .shape .t ≡ t → i < t → Going k i (λ x. other (busies x))
   going-begins k i notes busies e K c h = record {
     given = λ x. 0;
     under = λ x. false;

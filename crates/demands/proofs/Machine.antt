@@ -114,8 +114,8 @@ Fits t (past p b) = Finish (t .phase) × (b ≡ Told.done)
 pub record Linked (seen : ℕ → Move) (n : ℕ) (start : Row) (N : ℕ) (f : Flat) (w : Watch) : Type 0 where
   pub inv : Inv seen (groups n) start N N (f .row) (w .pend) (w .count) (w .log)
   pub fits : (x : ℕ) → Fits (trackerAt (f .trackers) x) (w .pend x)
-  pub n-is : f .n ≡ n
-  pub long : f .t ≤ length (f .trackers)
+  pub n-is : f .shape .n ≡ n
+  pub long : f .shape .t ≤ length (f .trackers)
 
 on-row : {seen : ℕ → Move} {limit : ℕ} {start : Row} {M N : ℕ} {row row' : Row} {pend : ℕ → Pending} {count : ℕ} {log : ℕ → Entry} → row ≡ row'
     → Inv seen limit start M N row pend count log → Inv seen limit start M N row' pend count log
@@ -155,7 +155,7 @@ module _ (seen : ℕ → Move) (n : ℕ) (start : Row) {N : ℕ} {f : Flat} {w :
   went x v m e = passes seen (groups n) start v m (λ y a s. goes-not-begins (sym e ∙ s)) (λ y b s. goes-not-ends (sym e ∙ s))
 
   -- tracker x is now t, with u under way
-  module _ (x : ℕ) (xl : x < f .t) (t : Tracker) (row : Row) where
+  module _ (x : ℕ) (xl : x < f .shape .t) (t : Tracker) (row : Row) where
     fits-set : (pend : ℕ → Pending) (u : Pending) → pend x ≡ u → ((y : ℕ) → (y ≡ x → ⊥) → pend y ≡ w .pend y) → Fits t u → (y : ℕ) → Fits (trackerAt (set (f .trackers) x t) y) (pend y)
     fits-set pend u p o h y = go (ℕ-discrete y x)
       where
@@ -171,7 +171,7 @@ module _ (seen : ℕ → Move) (n : ℕ) (start : Row) {N : ℕ} {f : Flat} {w :
         (record { inv = v; fits = fits-set (w' .pend) u p o h; n-is = k .n-is; long = rw (length-set (f .trackers) x t) (k .long) })
 
   -- a step of tracker x, which is busy, by its course
-  module _ (x : ℕ) (xl : x < f .t) where
+  module _ (x : ℕ) (xl : x < f .shape .t) where
     abbrev t : Tracker
     t = trackerAt (f .trackers) x
 
@@ -246,13 +246,13 @@ module _ (seen : ℕ → Move) (n : ℕ) (start : Row) {N : ℕ} {f : Flat} {w :
   one-issue : (found : Bool) (x : ℕ) (a : Access) → Next (issues x a) (flatDoes f found (issues x a))
   unfolding flatDoes flatIssue
   one-issue found x a = unless-by _ _ (Next (issues x a))
-      (λ q e. let h = refusal-hold (issueTests (f .n) (f .t) x a (f .trackers)) refl q in
+      (λ q e. let h = refusal-hold (issueTests (f .shape) x a (f .trackers)) refl q in
       begin x (ltb-true _ _ (h .0)) a (h .1 .1 .0) (subst (λ (z : ℕ). a .group < groups z) (k .n-is) (ltb-true _ _ (h .1 .0))) e) (λ _ e. nothing e)
 
   one-step : (found : Bool) (x : ℕ) → Next (steps x) (flatDoes f found (steps x))
   unfolding flatDoes flatStep
   one-step found x = unless-by _ _ (Next (steps x))
-      (λ q e. let h = refusal-hold (stepTests (f .t) x (f .trackers)) refl q in stepped x (ltb-true _ _ (h .0)) found (not-true _ (h .1 .0)) e) (λ _ e. nothing e)
+      (λ q e. let h = refusal-hold (stepTests (f .shape) x (f .trackers)) refl q in stepped x (ltb-true _ _ (h .0)) found (not-true _ (h .1 .0)) e) (λ _ e. nothing e)
 
   one-drain : (found : Bool) → Next drains (flatDoes f found drains)
   unfolding flatDoes flatDrain
@@ -260,7 +260,7 @@ module _ (seen : ℕ → Move) (n : ℕ) (start : Row) {N : ℕ} {f : Flat} {w :
 
   one-lent : (found : Bool) (b m : List ℕ) (c : Call) → Next c (flatDoes f found c) → Next (lends b m c) (flatDoes f found (lends b m c))
   unfolding flatDoes
-  one-lent found b m c h = pick-by (Next (lends b m c)) (lengthsRight (f .n) (f .l) b m) (λ _ e. by-said (flatDoes f found c) h e) (λ _ e. nothing e)
+  one-lent found b m c h = pick-by (Next (lends b m c)) (lengthsRight (f .shape) b m) (λ _ e. by-said (flatDoes f found c) h e) (λ _ e. nothing e)
     where
       by-said : (r : Reply) → Next c r → Next (lends b m c) r
       by-said r h e = subst (λ (z : Move). Linked seen n start (suc N) (r .flat) (watchBy N (f .row) w (r .effect) z)) (sym (lent-move (r .said) b m c)) (h (e ∙ lent-move (r .said) b m c))

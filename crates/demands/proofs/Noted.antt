@@ -163,7 +163,7 @@ first-busy true = refl
 first-busy false = refl
 
 -- how a busy tracker's step goes
-pub step-turn : (k : Kept) → Ready k → (x : ℕ) → x < k .state .t → isIdle (trackerIn k x) ≡ false
+pub step-turn : (k : Kept) → Ready k → (x : ℕ) → x < k .state .shape .t → isIdle (trackerIn k x) ≡ false
     → (t' : Tracker) × Anew k (kept (does k (steps x))) x t' × Turn x (trackerIn k x) t' (event (steps x) (does k (steps x) .said))
 step-turn k s x h b =
     let r = by-table k s x h b in
@@ -186,7 +186,7 @@ module _ (k : Kept) (notes : ℕ → Note) (K : Noted k notes) where
   noted-at c o (Calls.refused r q z) = rw (z, q) (K .is-so)
   noted-at c o (Calls.issued x access h e is) =
       rw (ap (λ (a : Out). a .said) is) (each (λ (y : ℕ) (t : Tracker). True (becomes notes x (busy (access .write) (access .bottom) 0) y) t) k (kept o) x (Tracker.issued access)
-      (anew k (kept o) x (Tracker.issued access) (K .ready) h (ap (λ (a : Out). a .state .n) is) (ap (λ (a : Out). a .state .t) is) (ap (λ (a : Out). a .state .trackers) is))
+      (anew k (kept o) x (Tracker.issued access) (K .ready) h (ap (λ (a : Out). a .state .shape .n) is) (ap (λ (a : Out). a .state .shape .t) is) (ap (λ (a : Out). a .state .trackers) is))
       (rw (becomes-same notes x (busy (access .write) (access .bottom) 0)) (record { is-busy = first-busy (access .bottom); write-is = refl; bottom-is = refl; counts = omega arith }))
       (λ y ne. rw (becomes-other notes x y (busy (access .write) (access .bottom) 0) ne) (K .is-so y)))
   noted-at c o (Calls.stepped x h b) = let r = step-turn k (K .ready) x h b in noted-turn x (r .0) (kept o) (event (steps x) (o .said)) b (r .1) (r .2)

@@ -68,11 +68,11 @@ module _ (k : Kept) (s : Ready k) (a : Alone k) where
       (each (λ (y : ℕ) (t : Tracker). isIdle t ≡ false → Before k y t) k k' x t' n (λ c. absurd (not-both-ways i c)) (λ y ne c. record { busy = c; write = refl; group = refl }))
 
   -- an issue: no busy tracker meets it
-  module _ (x : ℕ) (access : Access) (none : meetsNone (k .state .t) access (k .state .trackers) ≡ true) where
+  module _ (x : ℕ) (access : Access) (none : meetsNone (k .state .shape .t) access (k .state .trackers) ≡ true) where
     not-met : (y : ℕ) → isIdle (trackerIn k y) ≡ false → trackerIn k y .group ≡ access .group → either (access .write) (trackerIn k y .write) ≡ true → ⊥
     unfolding meetsNone
     not-met y b e w = not-both-ways (meets-by access (trackerIn k y) b e w)
-        (not-true _ (all-at (λ z. not (meets access (trackerIn k z))) (k .state .t) none y (busy-below k s y b)))
+        (not-true _ (all-at (λ z. not (meets access (trackerIn k z))) (k .state .shape .t) none y (busy-below k s y b)))
 
     module _ (k' : Kept) (n : Anew k k' x (Tracker.issued access)) where
       -- a busy tracker y that has the group of a busy write: the new access, and an old one
@@ -89,16 +89,16 @@ module _ (k : Kept) (s : Ready k) (a : Alone k) where
           k k' x (Tracker.issued access) n (λ _ w' c e. beside-new w' y c e) (λ z ne b' w' c e. beside-old z b' w' y c e) x' b w
 
   -- where an issue said ok its tests hold
-  none-met : (x : ℕ) (access : Access) → does k (issues x access) .said ≡ ok → meetsNone (k .state .t) access (k .state .trackers) ≡ true
+  none-met : (x : ℕ) (access : Access) → does k (issues x access) .said ≡ ok → meetsNone (k .state .shape .t) access (k .state .trackers) ≡ true
   unfolding does
   none-met x access e = ⊎-elim (λ z. issue-free (k .state) (k .bytes) (k .memory) (s .0) (s .1) x access z .3)
       (λ h. absurd (ok-not-no (sym e ∙ ap (λ (o : Out). o .said) (issue-refused (k .state) (k .bytes) (k .memory) (s .0) (s .1) x access h))))
-      (refused-or-not (refusal (issueTests (k .state .n) (k .state .t) x access (k .state .trackers))))
+      (refused-or-not (refusal (issueTests (k .state .shape) x access (k .state .trackers))))
 
   alone-at : (c : Call) (o : Out) → Outcome k c o → Alone (kept o)
   alone-at c o (Calls.refused r q is) = rw is a
   alone-at c o (Calls.issued x access h e is) = alone-issued x access (none-met x access (ap (λ (d : Out). d .said) is)) (kept o)
-      (anew k (kept o) x (Tracker.issued access) s h (ap (λ (d : Out). d .state .n) is) (ap (λ (d : Out). d .state .t) is) (ap (λ (d : Out). d .state .trackers) is))
+      (anew k (kept o) x (Tracker.issued access) s h (ap (λ (d : Out). d .state .shape .n) is) (ap (λ (d : Out). d .state .shape .t) is) (ap (λ (d : Out). d .state .trackers) is))
   alone-at c o (Calls.stepped x h b) = let r = step-turn k s x h b in alone-turn x (r .0) (kept o) (event (steps x) (o .said)) b (r .1) (r .2)
   alone-at c o (Calls.drained lines memory q is) = rw is a
 

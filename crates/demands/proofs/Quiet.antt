@@ -13,12 +13,13 @@ use Rattle.laws.proofs.Refusal.{unless-by}
 use Rattle.laws.proofs.Scan.{all-at}
 use Rattle.laws.proofs.Splice.{lt-or-ge}
 use Rattle.geometry.specs.TagMemory.{leafOf}
+use Rattle.geometry.specs.declared.Shape.{Shape}
 use Rattle.tracker.specs.declared.Phase.{Phase}
 use Rattle.tracker.specs.declared.Phase.the-variants.{Idle, Probe, Map, Leaf, Set, Clear}
 use Rattle.tracker.specs.declared.Tracker.{Tracker}
 use Rattle.tracker.specs.Tracker.{isIdle}
 use Rattle.tracker.specs.Tracker as Tracker
-use Rattle.line.specs.Word.{changed, held, word, heldBy}
+use Rattle.line.specs.Word.{changed, held, word, heldBy, lineBlocks, marks}
 use Rattle.line.specs.Find.{lineOf}
 use Rattle.line.proofs.Words.{free-changed, not-used, changed-odd}
 use Rattle.rules.specs.State.{Rows, trackerAt, lengthsRight}
@@ -56,26 +57,26 @@ clean-set (v ∷ lines) (suc i) w c h (suc j) = clean-set lines i w (λ k. c (su
 
 clean-word : (b h : ℕ) → changed (word b false h) ≡ false
 unfolding word
-clean-word b h = pick-by (λ (w : ℕ). changed w ≡ false) (both (ltb b 16777215) (ltb h 128)) (λ _. changed-odd (1 + 0 + 2 * h + 256 * b) (omega arith)) (λ _. free-changed)
+clean-word b h = pick-by (λ (w : ℕ). changed w ≡ false) (both (ltb b lineBlocks) (ltb h marks)) (λ _. changed-odd (1 + 0 + 2 * h + 256 * b) (omega arith)) (λ _. free-changed)
 
 clean-held : (w h : ℕ) → changed w ≡ false → changed (heldBy w h) ≡ false
 unfolding heldBy
 clean-held w h e = rw e (clean-word _ h)
 
-clean-bring : (l hand b : ℕ) (r : Rows) → Clean (r .lines) → Clean (bringIn l hand b r .rows .lines)
+clean-bring : (shape : Shape) (b : ℕ) (r : Rows) → Clean (r .lines) → Clean (bringIn shape b r .rows .lines)
 unfolding bringIn
-clean-bring l hand b r c = pick-by (λ (o : Brought). Clean (o .rows .lines)) (ltb (lineOf (r .lines) l b) l) (λ _. c)
-    (λ _. pick-by (λ (o : Brought). Clean (o .rows .lines)) (ltb (placeLine l hand (r .lines) (r .bytes)) l) (λ _. clean-set (r .lines) _ _ c (clean-word b 0)) (λ _. c))
+clean-bring shape b r c = pick-by (λ (o : Brought). Clean (o .rows .lines)) (ltb (lineOf (r .lines) (shape .l) b) (shape .l)) (λ _. c)
+    (λ _. pick-by (λ (o : Brought). Clean (o .rows .lines)) (ltb (placeLine shape (r .lines) (r .bytes)) (shape .l)) (λ _. clean-set (r .lines) _ _ c (clean-word b 0)) (λ _. c))
 
 -- what a step leaves
 abbrev CleanAfter : Turned → Type 0
 CleanAfter o = Clean (o .rows .lines)
 
-module _ (n l hand x : ℕ) (t : Tracker) (r : Rows) (c : Clean (r .lines)) where
-  clean-probe : CleanAfter (probe l hand t r)
+module _ (shape : Shape) (x : ℕ) (t : Tracker) (r : Rows) (c : Clean (r .lines)) where
+  clean-probe : CleanAfter (probe shape t r)
   unfolding probe
-  clean-probe = pick-by CleanAfter (ltb (lineOf (r .lines) l (leafOf (t .group))) l)
-      (λ _. pick-by CleanAfter (t .write) (λ _. pick-by CleanAfter (eqb (groupIn (r .bytes) (lineOf (r .lines) l (leafOf (t .group))) (t .group)) (t .value)) (λ _. c) (λ _. c)) (λ _. c)) (λ _. c)
+  clean-probe = pick-by CleanAfter (ltb (lineOf (r .lines) (shape .l) (leafOf (t .group))) (shape .l))
+      (λ _. pick-by CleanAfter (t .write) (λ _. pick-by CleanAfter (eqb (groupIn (r .bytes) (lineOf (r .lines) (shape .l) (leafOf (t .group))) (t .group)) (t .value)) (λ _. c) (λ _. c)) (λ _. c)) (λ _. c)
 
   clean-onMap : (b : Brought) → Clean (b .rows .lines) → CleanAfter (onMap x t b)
   unfolding onMap
@@ -84,27 +85,27 @@ module _ (n l hand x : ℕ) (t : Tracker) (r : Rows) (c : Clean (r .lines)) wher
       pick-by CleanAfter (eqb (bitIn (b .rows .bytes) (b .line) (t .group)) 0)
       (λ _. pick-by CleanAfter (t .write) (λ _. pick-by CleanAfter (eqb (t .value) 0) (λ _. k) (λ _. h)) (λ _. k)) (λ _. h)
 
-  clean-map : CleanAfter (map n l hand x t r)
+  clean-map : CleanAfter (map shape x t r)
   unfolding map
   clean-map =
-      let m = mapBlock n (t .group) in
-      pick-by CleanAfter (both (ltb (lineOf (r .lines) l m) l) (held (getD (r .lines) (lineOf (r .lines) l m) 0))) (λ _. c)
-      (λ _. pick-by CleanAfter (ltb (bringIn l hand m r .line) l) (λ _. clean-onMap (bringIn l hand m r) (clean-bring l hand m r c)) (λ _. c))
+      let m = mapBlock (shape .n) (t .group) in
+      pick-by CleanAfter (both (ltb (lineOf (r .lines) (shape .l) m) (shape .l)) (held (getD (r .lines) (lineOf (r .lines) (shape .l) m) 0))) (λ _. c)
+      (λ _. pick-by CleanAfter (ltb (bringIn shape m r .line) (shape .l)) (λ _. clean-onMap (bringIn shape m r) (clean-bring shape m r c)) (λ _. c))
 
-  clean-leafRead : (j : ℕ) → CleanAfter (leafRead l hand j t r)
+  clean-leafRead : (j : ℕ) → CleanAfter (leafRead shape j t r)
   unfolding leafRead
   clean-leafRead j =
-      let b = bringIn l hand (leafOf (t .group)) r in
-      let k : Clean (b .rows .lines) = clean-bring l hand (leafOf (t .group)) r c in
-      pick-by CleanAfter (ltb (b .line) l) (λ _. clean-set (b .rows .lines) j _ k (clean-held _ 0 (k j))) (λ _. c)
+      let b = bringIn shape (leafOf (t .group)) r in
+      let k : Clean (b .rows .lines) = clean-bring shape (leafOf (t .group)) r c in
+      pick-by CleanAfter (ltb (b .line) (shape .l)) (λ _. clean-set (b .rows .lines) j _ k (clean-held _ 0 (k j))) (λ _. c)
 
   module _ (reads : t .write ≡ false) where
-    clean-leaf : CleanAfter (inLine n l hand t r Leaf)
+    clean-leaf : CleanAfter (inLine shape t r Leaf)
     unfolding inLine
-    clean-leaf = pick-by CleanAfter (ltb (lineOf (r .lines) l (mapBlock n (t .group))) l)
-        (λ _. pick-by CleanAfter (t .write) (λ w. absurd (not-both-ways w reads)) (λ _. clean-leafRead (lineOf (r .lines) l (mapBlock n (t .group))))) (λ _. c)
+    clean-leaf = pick-by CleanAfter (ltb (lineOf (r .lines) (shape .l) (mapBlock (shape .n) (t .group))) (shape .l))
+        (λ _. pick-by CleanAfter (t .write) (λ w. absurd (not-both-ways w reads)) (λ _. clean-leafRead (lineOf (r .lines) (shape .l) (mapBlock (shape .n) (t .group))))) (λ _. c)
 
-    clean-byPhase : (p : Phase) → phaseWhole (t .write) (t .bottom) p ≡ true → CleanAfter (byPhase n l hand x t r p)
+    clean-byPhase : (p : Phase) → phaseWhole (t .write) (t .bottom) p ≡ true → CleanAfter (byPhase shape x t r p)
     clean-byPhase Idle h = c
     clean-byPhase Probe h = clean-probe
     clean-byPhase Map h = clean-map
@@ -112,21 +113,21 @@ module _ (n l hand x : ℕ) (t : Tracker) (r : Rows) (c : Clean (r .lines)) wher
     clean-byPhase Set h = absurd (not-both-ways h reads)
     clean-byPhase Clear h = absurd (not-both-ways h reads)
 
-    clean-turn : phaseWhole (t .write) (t .bottom) (t .phase) ≡ true → CleanAfter (turnOf n l hand x t r)
+    clean-turn : phaseWhole (t .write) (t .bottom) (t .phase) ≡ true → CleanAfter (turnOf shape x t r)
     unfolding turnOf
-    clean-turn h = pick-by CleanAfter (fit n l x t r)
-        (λ _. pick-by CleanAfter (lengthsRight n l (r .bytes) (r .memory)) (λ _. clean-byPhase (t .phase) h) (λ _. c)) (λ _. c)
+    clean-turn h = pick-by CleanAfter (fit shape x t r)
+        (λ _. pick-by CleanAfter (lengthsRight shape (r .bytes) (r .memory)) (λ _. clean-byPhase (t .phase) h) (λ _. c)) (λ _. c)
 
 clean-step : (k : Kept) (x : ℕ) → Ready k → Clean (k .state .lines) → trackerIn k x .write ≡ false → Clean (does k (steps x) .state .lines)
 unfolding does step
 clean-step k x s c e = unless-by {c = stepNo (k .state) (k .bytes) (k .memory) x} _ _ (λ (o : Out). Clean (o .state .lines))
-    (λ _. clean-turn (k .state .n) (k .state .l) (k .state .hand) x (trackerIn k x) _ c e (whole-facts (k .state) (s .0) .tracked .phase-ok x)) (λ _. c)
+    (λ _. clean-turn (k .state .shape) x (trackerIn k x) _ c e (whole-facts (k .state) (s .0) .tracked .phase-ok x)) (λ _. c)
 
 -- where all T trackers are idle every tracker is
 pub all-rest : (k : Kept) → Ready k → allIdle (k .state) ≡ true → (x : ℕ) → isIdle (trackerIn k x) ≡ true
 unfolding allIdle
-all-rest k s e x = ⊎-elim (λ (h : x < k .state .t). all-at (λ y. isIdle (trackerIn k y)) (k .state .t) e x h)
-    (λ (h : k .state .t ≤ x). whole-facts (k .state) (s .0) .tracked .above x h) (lt-or-ge x (k .state .t))
+all-rest k s e x = ⊎-elim (λ (h : x < k .state .shape .t). all-at (λ y. isIdle (trackerIn k y)) (k .state .shape .t) e x h)
+    (λ (h : k .state .shape .t ≤ x). whole-facts (k .state) (s .0) .tracked .above x h) (lt-or-ge x (k .state .shape .t))
 
 -- every line is clean, and every access under way a read
 pub record Quiet (k : Kept) : Type 0 where
@@ -159,9 +160,9 @@ module _ (k : Kept) (row : Row) (a : Ok k row) (w : Bool) (Q : w ≡ false → Q
       let is = drain-is (k .state) (k .bytes) (k .memory) (a .is-whole) (a .right) e in
       record {
         clean = λ i. ⊎-elim
-            (λ (l : i < k .state .l). rw is (drains-all (a .agrees .good) (k .state .l) (omega arith) .clean i l))
-            (λ (l : k .state .l ≤ i). ap changed (not-used _ (whole-facts _ (s' .0) .lined .above i (rw is l))) ∙ free-changed)
-            (lt-or-ge i (k .state .l));
+            (λ (l : i < k .state .shape .l). rw is (drains-all (a .agrees .good) (k .state .shape .l) (omega arith) .clean i l))
+            (λ (l : k .state .shape .l ≤ i). ap changed (not-used _ (whole-facts _ (s' .0) .lined .above i (rw is l))) ∙ free-changed)
+            (lt-or-ge i (k .state .shape .l));
         reads = λ x b. absurd (not-both-ways (all-rest k s e x) (subst (λ (o : Out). isIdle (trackerAt (o .state .trackers) x) ≡ false) is b));
       }
 
@@ -172,7 +173,7 @@ module _ (k : Kept) (row : Row) (a : Ok k row) (w : Bool) (Q : w ≡ false → Q
       record {
         clean = rw is (Q (f .1) .clean);
         reads = each (λ (y : ℕ) (t : Tracker). isIdle t ≡ false → t .write ≡ false) k (kept o) x (Tracker.issued access)
-            (anew k (kept o) x (Tracker.issued access) s h (ap (λ (d : Out). d .state .n) is) (ap (λ (d : Out). d .state .t) is) (ap (λ (d : Out). d .state .trackers) is))
+            (anew k (kept o) x (Tracker.issued access) s h (ap (λ (d : Out). d .state .shape .n) is) (ap (λ (d : Out). d .state .shape .t) is) (ap (λ (d : Out). d .state .trackers) is))
             (λ _. f .0) (λ y ne. Q (f .1) .reads y);
       }
   quiet-at c o (Calls.stepped x h b) s' z =

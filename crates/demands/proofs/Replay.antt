@@ -180,7 +180,7 @@ module _ (t : ℕ) (k : Kept) (B : Begun t k) where
       let k1 = keptOf s b m in
       let R = runs (callsFor lines) k _ (B .agrees) (P .fit) in
       let q : k1 ≡ ended k (callsFor lines) = P .leaves ∙ leaves-run lines k in
-      let Z = plays-becomes k1 number input output (subst (λ (z : Kept). both (whole (z .state)) (lengthsRight (z .state .n) (z .state .l) (z .bytes) (z .memory)) ≡ true) (sym q)
+      let Z = plays-becomes k1 number input output (subst (λ (z : Kept). both (whole (z .state)) (lengthsRight (z .state .shape) (z .bytes) (z .memory)) ≡ true) (sym q)
       (both-true _ _ (R .ok-still .is-whole) (R .ok-still .right))) in
       let new = asked follows (length input) input (starts k1 number output) in
       more k1 (keptOf (r .state) b' m') number (r .number) lines new text (take (r .written) output') P (asked-fit follows (length input) input (starts k1 number output))
@@ -195,6 +195,6 @@ replay-prints t s s' b m b' m' number lines text start p =
       answers k (callsFor lines),
       logOf (logged k (callsFor lines)),
       P .text-is ∙ ap (textOf 1) (says-run lines k),
-      subst (λ (z : Kept). OneRow (s .n) m (events (callsFor lines) (answers k (callsFor lines))) (z .memory) (logOf (logged k (callsFor lines)))) (sym (P .leaves ∙ leaves-run lines k))
+      subst (λ (z : Kept). OneRow (s .shape .n) m (events (callsFor lines) (answers k (callsFor lines))) (z .memory) (logOf (logged k (callsFor lines)))) (sym (P .leaves ∙ leaves-run lines k))
           (one-row t k B (callsFor lines) (P .fit)),
     )

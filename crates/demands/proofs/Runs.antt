@@ -18,7 +18,7 @@ use Rattle.cache.specs.Seen.{did}
 use Rattle.session.specs.Session.{Starts, fresh, opened, Met, issued, stepped, drained, Session, over, then, said}
 
 abbrev pub stateOf : rules.State → State
-stateOf s = record { n = s .n; t = s .t; l = s .l; hand = s .hand; lines = s .lines; trackers = s .trackers }
+stateOf s = record { shape = s .shape; lines = s .lines; trackers = s .trackers }
 
 abbrev pub answerOf : Said → Answer
 answerOf ok = Accepted

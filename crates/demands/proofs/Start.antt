@@ -6,6 +6,7 @@ use Prim.Native.Nat.{ℕ}
 use lib.ListN.{getD}
 use Rattle.laws.proofs.Writes.{getD-replicate}
 use Rattle.memory.specs.PlainReading.{plainGroup}
+use Rattle.geometry.specs.Shape.{shapeOf}
 use Rattle.tracker.specs.declared.Phase.the-variants.{Idle}
 use Rattle.tracker.specs.declared.Answer.{Answer}
 use Rattle.tracker.specs.Answer.{ok}
@@ -24,13 +25,13 @@ use Rattle.cache.specs.declared.Out.{Out}
 use Rattle.session.specs.Session.{Starts, fresh, opened, Met, issued, stepped, drained, Session, over, then, lent, keptOf}
 
 pub record Begun (t : ℕ) (k : Kept) : Type 0 where
-  pub agrees : Ok k (plainGroup (k .state .n) (k .memory))
+  pub agrees : Ok k (plainGroup (k .state .shape .n) (k .memory))
   pub idle : (x : ℕ) → trackerAt (k .state .trackers) x .phase ≡ Idle
   pub clean : (i : ℕ) → changed (getD (k .state .lines) i 0) ≡ false
-  pub count : k .state .t ≡ t
+  pub count : k .state .shape .t ≡ t
 
 module _ (n t l : ℕ) (b m : List ℕ) where
-  all-free : (o : calls.Out) → o .state .lines ≡ rules.begun n t l .lines → (i : ℕ) → changed (getD (o .state .lines) i 0) ≡ false
+  all-free : (o : calls.Out) → o .state .lines ≡ rules.begun (shapeOf n t l) .lines → (i : ℕ) → changed (getD (o .state .lines) i 0) ≡ false
   all-free o e i = ap (λ (ls : List ℕ). changed (getD ls i 0)) e ∙ ap changed (getD-replicate 64 i 0) ∙ free-changed
 
   fresh-begun : calls.fresh n t l b m .said ≡ ok → Begun t (kept (calls.fresh n t l b m))
@@ -38,7 +39,7 @@ module _ (n t l : ℕ) (b m : List ℕ) where
     agrees = fresh-agrees n t l b m e;
     idle = fresh-idle n t l b m;
     clean = all-free (calls.fresh n t l b m) (ap (λ (o : calls.Out). o .state .lines) (fresh-accepted n t l b m (fresh-passed n t l b m e)));
-    count = ap (λ (o : calls.Out). o .state .t) (fresh-accepted n t l b m (fresh-passed n t l b m e));
+    count = ap (λ (o : calls.Out). o .state .shape .t) (fresh-accepted n t l b m (fresh-passed n t l b m e));
   }
 
   opened-begun : calls.opened n t l b m .said ≡ ok → Begun t (kept (calls.opened n t l b m))
@@ -46,7 +47,7 @@ module _ (n t l : ℕ) (b m : List ℕ) where
     agrees = opened-agrees n t l b m e;
     idle = opened-idle n t l b m;
     clean = all-free (calls.opened n t l b m) (ap (λ (o : calls.Out). o .state .lines) (open-accepted n t l b m (open-passed n t l b m e)));
-    count = ap (λ (o : calls.Out). o .state .t) (open-accepted n t l b m (open-passed n t l b m e));
+    count = ap (λ (o : calls.Out). o .state .shape .t) (open-accepted n t l b m (open-passed n t l b m e));
   }
 
 pub begun : (t : ℕ) (s : State) (b m : List ℕ) → Starts t s b m → Begun t (keptOf s b m)

@@ -74,7 +74,7 @@ worked = record { accepted = refl; count = refl; log = refl; idle = (refl, refl)
 plain : AllPlain calls
 plain = search arith depth 60 fits 4000
 
-pub instance : (log : Log) × OneRow (begun .state .n) (begun .memory) (events calls (said (answersOf (answers begun calls)))) (ended begun calls .memory) log
+pub instance : (log : Log) × OneRow (begun .state .shape .n) (begun .memory) (events calls (said (answersOf (answers begun calls)))) (ended begun calls .memory) log
 unfolding fresh unless refusal limits both inLimits lengthsRight mapBlocks
 instance =
     let d = demand-2 2 (stateOf (begun .state)) (begun .bytes) (begun .memory) (fresh-starts 4 2 3 (replicate 192 7) (replicate 320 9) refl refl) in

@@ -73,5 +73,5 @@ pub record Extends (calls : ℕ) (log log' : Log) : Type 0 where
 -- Of every session of the code that begins with an accepted fresh or open: its log is a function of its calls.
 abbrev pub Demand2 : Type 0
 Demand2 = (t : ℕ) (s : State) (b m : List ℕ) → Starts t s b m → (log : List Call → Log)
-    × ((s' : State) (b' m' : List ℕ) (cs : List Call) (answers : List Answer) → Session s b m cs answers s' b' m' → OneRow (s .n) m (events cs (said answers)) m' (log cs))
+    × ((s' : State) (b' m' : List ℕ) (cs : List Call) (answers : List Answer) → Session s b m cs answers s' b' m' → OneRow (s .shape .n) m (events cs (said answers)) m' (log cs))
     × ((s' : State) (b' m' : List ℕ) (cs ds : List Call) (answers : List Answer) → Session s b m (cs ++ ds) answers s' b' m' → Extends (length cs) (log cs) (log (cs ++ ds)))

@@ -35,7 +35,7 @@ pub record KeptByImage (n : ℕ) (memory : List ℕ) : Type 0 where
 -- of every session of the code that begins with an accepted fresh or open, at rest
 abbrev pub Demand2Image : Type 0
 Demand2Image = (t : ℕ) (s s' : State) (b m b' m' : List ℕ) (cs : List Call) (answers : List Answer) → Starts t s b m → Session s b m cs answers s' b' m'
-    → AtRest (events cs (said answers)) → KeptByImage (s .n) m'
+    → AtRest (events cs (said answers)) → KeptByImage (s .shape .n) m'
 
 -- The writer could have written this image: it does so from some memory of real bytes, whatever the output was.
 pub record Written (image : List ℕ) : Type 0 where

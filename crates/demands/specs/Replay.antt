@@ -58,4 +58,4 @@ pub data Replays (s0 : State) (b0 m0 : List ℕ) : State → (b m : List ℕ) (n
 
 abbrev pub ReplayPrints : Type 0
 ReplayPrints = (t : ℕ) (s s' : State) (b m b' m' : List ℕ) (number : ℕ) (lines : List Asks) (text : List ℕ) → Starts t s b m → Replays s b m s' b' m' number lines text
-    → (said : List Said) × (log : Log) × (text ≡ textOf 1 (linesSay lines said)) × OneRow (s .n) m (events (callsFor lines) said) m' log
+    → (said : List Said) × (log : Log) × (text ≡ textOf 1 (linesSay lines said)) × OneRow (s .shape .n) m (events (callsFor lines) said) m' log

@@ -6,6 +6,7 @@ use Prim.Native.Nat.{ℕ}
 use lib.ListN.{replicate}
 use Rattle.laws.proofs.Writes.{getD-replicate}
 use Rattle.laws.proofs.Choice.{not-both-ways}
+use Rattle.geometry.specs.Shape.{shapeOf}
 use Rattle.geometry.specs.TagMemory.{mostTrackers, mostLines}
 use Rattle.memory.specs.PlainReading.{plainGroup}
 use Rattle.memory.specs.True.{isTrue, clearedMap}
@@ -34,7 +35,7 @@ pub record Runs (k : Kept) (cs : List Call) (row : Row) : Type 0 where
   pub last : Row
   pub flat-is : flatEnded (flatWith k row) (given k cs) ≡ flatWith (ended k cs) last
   pub ok-still : Ok (ended k cs) last
-  pub n-is : ended k cs .state .n ≡ k .state .n
+  pub n-is : ended k cs .state .shape .n ≡ k .state .shape .n
 
 runs-more : (k : Kept) (c : Call) (cs : List Call) (row : Row) (f : Follows k c row) → Runs (kept (does k c)) cs (f .row') → Runs k (c ∷ cs) row
 unfolding answers ended flatAnswers flatEnded given
@@ -55,27 +56,27 @@ runs [] k row a q = runs-none k row a
 runs (c ∷ cs) k row a q = let f = follows k row a c (q .0) in runs-more k c cs row f (runs cs (kept (does k c)) (f .row') (f .ok-still) (q .1))
 
 -- The beginning: every line free, every tracker idle, over a true memory.
-module _ (n t l : ℕ) (bytes memory : List ℕ) (lim : limits n t l ≡ true) (right : lengthsRight n l bytes memory ≡ true) (tr : isTrue n memory ≡ true) where
-  pub begun-ok : Ok (kept (accepted (begun n t l) bytes memory)) (plainGroup n memory)
+module _ (n t l : ℕ) (bytes memory : List ℕ) (lim : limits (shapeOf n t l) ≡ true) (right : lengthsRight (shapeOf n t l) bytes memory ≡ true) (tr : isTrue n memory ≡ true) where
+  pub begun-ok : Ok (kept (accepted (begun (shapeOf n t l)) bytes memory)) (plainGroup n memory)
   begun-ok = record {
     is-whole = begun-whole n t l lim;
     right = right;
-    agrees = begins n l (record { lines = replicate mostLines 0; bytes = bytes; memory = memory }) (replicate mostTrackers idle) (bytes-right n l bytes memory right) (memory-right n l bytes memory right)
-        (l-most n t l lim) (λ i b h. not-both-ways (h .is-used) (ap used (getD-replicate mostLines i 0) ∙ free-used)) (λ x. getD-replicate mostTrackers x idle) tr;
+    agrees = begins n l (record { lines = replicate mostLines 0; bytes = bytes; memory = memory }) (replicate mostTrackers idle) (bytes-right (shapeOf n t l) bytes memory right) (memory-right (shapeOf n t l) bytes memory right)
+        (l-most (shapeOf n t l) lim) (λ i b h. not-both-ways (h .is-used) (ap used (getD-replicate mostLines i 0) ∙ free-used)) (λ x. getD-replicate mostTrackers x idle) tr;
   }
 
 module _ (n t l : ℕ) (bytes memory : List ℕ) where
   -- an accepted fresh agrees with what its memory then reads
-  pub fresh-agrees : fresh n t l bytes memory .said ≡ ok → Ok (kept (fresh n t l bytes memory)) (plainGroup (fresh n t l bytes memory .state .n) (fresh n t l bytes memory .memory))
+  pub fresh-agrees : fresh n t l bytes memory .said ≡ ok → Ok (kept (fresh n t l bytes memory)) (plainGroup (fresh n t l bytes memory .state .shape .n) (fresh n t l bytes memory .memory))
   fresh-agrees s =
       let c = fresh-passed n t l bytes memory s in
       let f = fresh-free n t l bytes memory c in
       rw (fresh-accepted n t l bytes memory c)
       (begun-ok n t l bytes (clearedMap n memory) (f .0)
-      (lengths-right n l bytes (clearedMap n memory) (bytes-right n l bytes memory (f .1)) (length-clearedMap n memory ∙ memory-right n l bytes memory (f .1))) (clearedMap-true n memory))
+      (lengths-right (shapeOf n t l) bytes (clearedMap n memory) (bytes-right (shapeOf n t l) bytes memory (f .1)) (length-clearedMap n memory ∙ memory-right (shapeOf n t l) bytes memory (f .1))) (clearedMap-true n memory))
 
   -- and so does an accepted open
-  pub opened-agrees : opened n t l bytes memory .said ≡ ok → Ok (kept (opened n t l bytes memory)) (plainGroup (opened n t l bytes memory .state .n) (opened n t l bytes memory .memory))
+  pub opened-agrees : opened n t l bytes memory .said ≡ ok → Ok (kept (opened n t l bytes memory)) (plainGroup (opened n t l bytes memory .state .shape .n) (opened n t l bytes memory .memory))
   opened-agrees s =
       let c = open-passed n t l bytes memory s in
       let f = open-free n t l bytes memory c in

@@ -11,6 +11,8 @@ use Rattle.laws.specs.Choice.{pick}
 use Rattle.laws.proofs.Choice.{true-or-false}
 use Rattle.laws.specs.Refusal.{refusal, unless}
 use Rattle.laws.proofs.Refusal.{refused-or-not, unless-0, unless-no}
+use Rattle.geometry.specs.declared.Shape.{Shape}
+use Rattle.geometry.specs.Shape.{atHand}
 use Rattle.geometry.specs.TagMemory.{leafOf, values}
 use Rattle.tracker.specs.declared.Access.{Access}
 use Rattle.tracker.specs.declared.Tracker.{Tracker}
@@ -20,11 +22,11 @@ use Rattle.line.specs.Find.{lineOf}
 use Rattle.rules.specs.State.{State, Rows, trackerAt, lengthsRight}
 use Rattle.rules.specs.Whole.{whole}
 use Rattle.rules.specs.Place.{drained}
-use Rattle.rules.specs.Step.{byPhase}
+use Rattle.rules.specs.Step.{Turned, byPhase}
 use Rattle.rules.specs.Calls.{Out, refused, accepted, withTracker, withLines, issueTests, issueNo, issue, stepped, stepTests, stepNo, step, allIdle, drainNo, drain}
 use Rattle.rules.specs.Run.{Call, issues, steps, drains, lends, Kept, kept, elsewhere, does}
 use Rattle.rules.proofs.Whole.{Whole, whole-facts}
-use Rattle.rules.proofs.Calls.{situation, turn-byPhase, step-is, step-sound, step-refused, step-free, issue-refused, issue-accepted, issue-free, issue-kept, drain-is, drain-sound, drain-busy, drains as drains-lined}
+use Rattle.rules.proofs.Calls.{Sound, lengths-hand, situation, turn-byPhase, step-is, step-sound, step-refused, step-free, issue-refused, issue-accepted, issue-free, issue-kept, drain-is, drain-sound, drain-busy, drains as drains-lined}
 use Rattle.flat.specs.Flat.{Row, Flat, Reply, Course, courseOf, says, rowBy, trackerBy, effectBy, withRow, refuse, flatIssue, flatStep, flatDrain, flatDoes}
 use Rattle.flat.specs.Demand.{found, Value32}
 use Rattle.flat.proofs.Agrees.{Fits, Agrees, finish-busy, agrees-same, agrees-rows}
@@ -36,29 +38,29 @@ rowsOf k = record { lines = k .state .lines; bytes = k .bytes; memory = k .memor
 
 -- the flat machine with the accesses of k
 abbrev pub flatWith : Kept → Row → Flat
-flatWith k row = record { n = k .state .n; t = k .state .t; l = k .state .l; row = row; trackers = k .state .trackers }
+flatWith k row = record { shape = atHand (k .state .shape) 0; row = row; trackers = k .state .trackers }
 
 -- what every state of a run has
 pub record Ok (k : Kept) (row : Row) : Type 0 where
   pub is-whole : whole (k .state) ≡ true
-  pub right : lengthsRight (k .state .n) (k .state .l) (k .bytes) (k .memory) ≡ true
-  pub agrees : Agrees (k .state .n) (k .state .l) (rowsOf k) (k .state .trackers) row
+  pub right : lengthsRight (k .state .shape) (k .bytes) (k .memory) ≡ true
+  pub agrees : Agrees (k .state .shape .n) (k .state .shape .l) (rowsOf k) (k .state .trackers) row
 
 pub record Follows (k : Kept) (c : Call) (row : Row) : Type 0 where
   pub row' : Row
   pub said-is : does k c .said ≡ flatDoes (flatWith k row) (found k c) c .said
   pub flat-is : flatDoes (flatWith k row) (found k c) c .flat ≡ flatWith (kept (does k c)) row'
   pub ok-still : Ok (kept (does k c)) row'
-  pub n-is : does k c .state .n ≡ k .state .n
+  pub n-is : does k c .state .shape .n ≡ k .state .shape .n
 
 follows-by : {k : Kept} {c : Call} {row : Row} (o : Out) (p : Reply) (row' : Row) → does k c ≡ o → flatDoes (flatWith k row) (found k c) c ≡ p
-    → o .said ≡ p .said → p .flat ≡ flatWith (kept o) row' → Ok (kept o) row' → o .state .n ≡ k .state .n → Follows k c row
+    → o .said ≡ p .said → p .flat ≡ flatWith (kept o) row' → Ok (kept o) row' → o .state .shape .n ≡ k .state .shape .n → Follows k c row
 follows-by {k} {c} {row} o p row' e f s g a n = record {
   row' = row';
   said-is = ap (λ (z : Out). z .said) e ∙ s ∙ ap (λ (z : Reply). z .said) (sym f);
   flat-is = ap (λ (z : Reply). z .flat) f ∙ g ∙ ap (λ (z : Out). flatWith (kept z) row') (sym e);
   ok-still = subst (λ (z : Out). Ok (kept z) row') (sym e) a;
-  n-is = ap (λ (z : Out). z .state .n) e ∙ n;
+  n-is = ap (λ (z : Out). z .state .shape .n) e ∙ n;
 }
 
 module _ {k : Kept} {row : Row} (a : Ok k row) where
@@ -79,12 +81,12 @@ module _ {k : Kept} {row : Row} (a : Ok k row) where
     unfolding does
     does-issue = refl
 
-    flat-refused : 0 < refusal (issueTests (k .state .n) (k .state .t) x access (k .state .trackers))
-        → flatIssue (flatWith k row) x access ≡ refuse (refusal (issueTests (k .state .n) (k .state .t) x access (k .state .trackers))) (flatWith k row)
+    flat-refused : 0 < refusal (issueTests (k .state .shape) x access (k .state .trackers))
+        → flatIssue (flatWith k row) x access ≡ refuse (refusal (issueTests (k .state .shape) x access (k .state .trackers))) (flatWith k row)
     unfolding flatIssue
     flat-refused h = unless-no _ _ h
 
-    module _ (free : refusal (issueTests (k .state .n) (k .state .t) x access (k .state .trackers)) ≡ 0) where
+    module _ (free : refusal (issueTests (k .state .shape) x access (k .state .trackers)) ≡ 0) where
       flat-issued : flatIssue (flatWith k row) x access ≡ (record { said = ok; flat = withRow (flatWith k row) row x (issued access); effect = [] })
       unfolding flatIssue
       flat-issued = unless-0 _ _ free
@@ -97,16 +99,16 @@ module _ {k : Kept} {row : Row} (a : Ok k row) where
       value-small q true = q
       value-small q false = omega arith
 
-      issued-agrees : access .value < values → Agrees (k .state .n) (k .state .l) (rowsOf k) (set (k .state .trackers) x (issued access)) row
+      issued-agrees : access .value < values → Agrees (k .state .shape .n) (k .state .shape .l) (rowsOf k) (set (k .state .trackers) x (issued access)) row
       issued-agrees q =
           let h = issue-free (k .state) (k .bytes) (k .memory) (a .is-whole) (a .right) x access free in
           agrees-same (a .agrees) x (omega (arith, w .tracked .long, h .0)) (issued access) (value-small q (access .write)) (a .agrees .good) (λ b bl. refl) (a .agrees .lined)
           (λ j f. finish-busy (trackerAt (k .state .trackers) x .phase) (h .2) (f .is-there)) (first-fits (access .bottom))
 
     follows-issue : access .value < values → Follows k (issues x access) row
-    follows-issue q = go (refused-or-not (refusal (issueTests (k .state .n) (k .state .t) x access (k .state .trackers))))
+    follows-issue q = go (refused-or-not (refusal (issueTests (k .state .shape) x access (k .state .trackers))))
       where
-        go : (refusal (issueTests (k .state .n) (k .state .t) x access (k .state .trackers)) ≡ 0) ⊎ (0 < refusal (issueTests (k .state .n) (k .state .t) x access (k .state .trackers)))
+        go : (refusal (issueTests (k .state .shape) x access (k .state .trackers)) ≡ 0) ⊎ (0 < refusal (issueTests (k .state .shape) x access (k .state .trackers)))
             → Follows k (issues x access) row
         go (inr h) = follows-no _ (does-issue ∙ issue-refused (k .state) (k .bytes) (k .memory) (a .is-whole) (a .right) x access h) (flat-issue ∙ flat-refused h)
         go (inl e) =
@@ -118,7 +120,7 @@ module _ {k : Kept} {row : Row} (a : Ok k row) where
 
   -- step
   module _ (x : ℕ) where
-    flat-step : flatDoes (flatWith k row) (found k (steps x)) (steps x) ≡ flatStep (flatWith k row) (ltb (lineOf (k .state .lines) (k .state .l) (leafOf (trackerAt (k .state .trackers) x .group))) (k .state .l)) x
+    flat-step : flatDoes (flatWith k row) (found k (steps x)) (steps x) ≡ flatStep (flatWith k row) (ltb (lineOf (k .state .lines) (k .state .shape .l) (leafOf (trackerAt (k .state .trackers) x .group))) (k .state .shape .l)) x
     unfolding flatDoes found
     flat-step = refl
 
@@ -127,19 +129,19 @@ module _ {k : Kept} {row : Row} (a : Ok k row) where
     does-step = refl
 
     module _ (f : Bool) where
-      flat-no : 0 < refusal (stepTests (k .state .t) x (k .state .trackers))
-          → flatStep (flatWith k row) f x ≡ refuse (refusal (stepTests (k .state .t) x (k .state .trackers))) (flatWith k row)
+      flat-no : 0 < refusal (stepTests (k .state .shape) x (k .state .trackers))
+          → flatStep (flatWith k row) f x ≡ refuse (refusal (stepTests (k .state .shape) x (k .state .trackers))) (flatWith k row)
       unfolding flatStep
       flat-no h = unless-no _ _ h
 
-      flat-turn : refusal (stepTests (k .state .t) x (k .state .trackers)) ≡ 0
+      flat-turn : refusal (stepTests (k .state .shape) x (k .state .trackers)) ≡ 0
           → flatStep (flatWith k row) f x ≡ (let t = trackerAt (k .state .trackers) x in let c = courseOf (flatWith k row) f x in
           record { said = says row t c; flat = withRow (flatWith k row) (rowBy row t c) x (trackerBy t c); effect = effectBy x t c })
       unfolding flatStep
       flat-turn e = unless-0 _ _ e
 
-    module _ (free : refusal (stepTests (k .state .t) x (k .state .trackers)) ≡ 0) where
-      xl : x < k .state .t
+    module _ (free : refusal (stepTests (k .state .shape) x (k .state .trackers)) ≡ 0) where
+      xl : x < k .state .shape .t
       xl = step-free (k .state) (k .bytes) (k .memory) (a .is-whole) (a .right) x free .0
 
       busy : isIdle (trackerAt (k .state .trackers) x) ≡ false
@@ -149,28 +151,41 @@ module _ {k : Kept} {row : Row} (a : Ok k row) where
       u = trackerAt (k .state .trackers) x
 
       abbrev in-line : Bool
-      in-line = ltb (lineOf (k .state .lines) (k .state .l) (leafOf (u .group))) (k .state .l)
+      in-line = ltb (lineOf (k .state .lines) (k .state .shape .l) (leafOf (u .group))) (k .state .shape .l)
 
       abbrev c : Course
       c = courseOf (flatWith k row) in-line x
 
-      plays : Plays (k .state .n) (k .state .l) x (k .state .trackers) row u c (byPhase (k .state .n) (k .state .l) (k .state .hand) x u (rowsOf k) (u .phase))
+      abbrev turn : Turned
+      turn = byPhase (k .state .shape) x u (rowsOf k) (u .phase)
+
+      plays : Plays (k .state .shape .n) (k .state .shape .l) x (k .state .trackers) row u c turn
       plays = plays-byPhase (situation (k .state) (k .bytes) (k .memory) (a .is-whole) (a .right) x xl busy) row (a .agrees) in-line _ refl refl (u .phase) refl
+
+      step-turn : step (k .state) (k .bytes) (k .memory) x ≡ stepped (k .state) x turn
+      step-turn = step-is (k .state) (k .bytes) (k .memory) (a .is-whole) (a .right) x xl busy ∙ ap (stepped (k .state) x) (turn-byPhase (k .state) (k .bytes) (k .memory) (a .is-whole) (a .right) x xl busy)
+
+      turn-sound : Sound (k .state .shape) (stepped (k .state) x turn)
+      turn-sound = subst (Sound (k .state .shape)) step-turn (step-sound (k .state) (k .bytes) (k .memory) (a .is-whole) (a .right) x xl busy)
 
       follows-turn : Follows k (steps x) row
       follows-turn =
-          let is = step-is (k .state) (k .bytes) (k .memory) (a .is-whole) (a .right) x xl busy ∙ ap (stepped (k .state) x) (turn-byPhase (k .state) (k .bytes) (k .memory) (a .is-whole) (a .right) x xl busy) in
-          let s = step-sound (k .state) (k .bytes) (k .memory) (a .is-whole) (a .right) x xl busy in
-          follows-by (stepped (k .state) x (byPhase (k .state .n) (k .state .l) (k .state .hand) x u (rowsOf k) (u .phase)))
+          follows-by (stepped (k .state) x turn)
           (record { said = says row u c; flat = withRow (flatWith k row) (rowBy row u c) x (trackerBy u c); effect = effectBy x u c })
-          (rowBy row u c) (does-step ∙ is) (flat-step ∙ flat-turn in-line free) (plays .said-is)
-          (ap (λ (z : Tracker). withRow (flatWith k row) (rowBy row u c) x z) (sym (plays .tracker-is)))
-          (record { is-whole = rw is at (s .is-whole); right = rw is at (s .right); agrees = plays .agrees }) refl
+          (rowBy row u c) (does-step ∙ step-turn) (flat-step ∙ flat-turn in-line free) (plays .said-is)
+          (ap (λ (z : Tracker). withRow (flatWith k row) (rowBy row u c) x z) (sym (plays .tracker-is))
+          ∙ ap (λ (z : Shape). flatWith (kept (stepped (k .state) x (record { said = turn .said; shape = z; tracker = turn .tracker; rows = turn .rows }))) (rowBy row u c)) (sym (turn-sound .is-shape)))
+          (record {
+            is-whole = turn-sound .is-whole;
+            right = turn-sound .right;
+            agrees = subst (λ (z : Shape). Agrees (z .n) (z .l) (turn .rows) (set (k .state .trackers) x (turn .tracker)) (rowBy row u c)) (sym (turn-sound .is-shape)) (plays .agrees);
+          })
+          (ap (λ (z : Shape). z .n) (turn-sound .is-shape))
 
     follows-step : Follows k (steps x) row
     follows-step = ⊎-elim (λ e. follows-turn e)
         (λ h. follows-no _ (does-step ∙ step-refused (k .state) (k .bytes) (k .memory) (a .is-whole) (a .right) x h) (flat-step ∙ flat-no _ h))
-        (refused-or-not (refusal (stepTests (k .state .t) x (k .state .trackers))))
+        (refused-or-not (refusal (stepTests (k .state .shape) x (k .state .trackers))))
 
   -- drain
   flat-drain : flatDoes (flatWith k row) (found k drains) drains ≡ flatDrain (flatWith k row)
@@ -197,38 +212,38 @@ module _ {k : Kept} {row : Row} (a : Ok k row) where
       go (inl e) =
           let is = drain-is (k .state) (k .bytes) (k .memory) (a .is-whole) (a .right) e in
           let s = drain-sound (k .state) (k .bytes) (k .memory) (a .is-whole) (a .right) e in
-          let d = drains-same (a .agrees .good) (k .state .l) (omega arith) in
-          let b : drained (k .state .l) (rowsOf k) .bytes ≡ k .bytes = drains-lined (k .state) (k .bytes) (k .memory) (a .is-whole) (a .right) e (k .state .l) (omega arith) .bytes-is in
-          follows-by (accepted (withLines (k .state) (drained (k .state .l) (rowsOf k) .lines)) (k .bytes) (drained (k .state .l) (rowsOf k) .memory))
+          let d = drains-same (a .agrees .good) (k .state .shape .l) (omega arith) in
+          let b : drained (k .state .shape .l) (rowsOf k) .bytes ≡ k .bytes = drains-lined (k .state) (k .bytes) (k .memory) (a .is-whole) (a .right) e (k .state .shape .l) (omega arith) .bytes-is in
+          follows-by (accepted (withLines (k .state) (drained (k .state .shape .l) (rowsOf k) .lines)) (k .bytes) (drained (k .state .shape .l) (rowsOf k) .memory))
           (record { said = ok; flat = flatWith k row; effect = [] }) row (does-drain ∙ is) (flat-drain ∙ flat-drained e) refl refl
           (record {
             is-whole = rw is at (s .is-whole);
             right = rw is at (s .right);
-            agrees = subst (λ (y : List ℕ). Agrees (k .state .n) (k .state .l)
-                (record { lines = drained (k .state .l) (rowsOf k) .lines; bytes = y; memory = drained (k .state .l) (rowsOf k) .memory }) (k .state .trackers) row) b
+            agrees = subst (λ (y : List ℕ). Agrees (k .state .shape .n) (k .state .shape .l)
+                (record { lines = drained (k .state .shape .l) (rowsOf k) .lines; bytes = y; memory = drained (k .state .shape .l) (rowsOf k) .memory }) (k .state .trackers) row) b
                 (agrees-rows (a .agrees) (d .same .good) (d .same .same) (λ i j q h. a .agrees .lined i j q (d .had i j h)));
           }) refl
 
 -- a call that lent other bytes: of the right lengths they are the run's own, of others the call is refused 2
 module _ (k : Kept) (b m : List ℕ) (c : Call) where
-  does-right : lengthsRight (k .state .n) (k .state .l) b m ≡ true → does k (lends b m c) ≡ does k c
+  does-right : lengthsRight (k .state .shape) b m ≡ true → does k (lends b m c) ≡ does k c
   unfolding does
   does-right e = rw e
 
-  does-wrong : lengthsRight (k .state .n) (k .state .l) b m ≡ false → does k (lends b m c) ≡ elsewhere (does (record { state = k .state; bytes = b; memory = m }) c) k
+  does-wrong : lengthsRight (k .state .shape) b m ≡ false → does k (lends b m c) ≡ elsewhere (does (record { state = k .state; bytes = b; memory = m }) c) k
   unfolding does
   does-wrong e = rw e
 
   module _ (row : Row) where
-    flat-right : lengthsRight (k .state .n) (k .state .l) b m ≡ true → flatDoes (flatWith k row) (found k (lends b m c)) (lends b m c) ≡ flatDoes (flatWith k row) (found k c) c
+    flat-right : lengthsRight (k .state .shape) b m ≡ true → flatDoes (flatWith k row) (found k (lends b m c)) (lends b m c) ≡ flatDoes (flatWith k row) (found k c) c
     unfolding flatDoes found
-    flat-right e = rw e
+    flat-right e = rw (lengths-hand (k .state .shape) b m 0 ∙ e)
 
-    flat-wrong : lengthsRight (k .state .n) (k .state .l) b m ≡ false → flatDoes (flatWith k row) (found k (lends b m c)) (lends b m c) ≡ refuse 2 (flatWith k row)
+    flat-wrong : lengthsRight (k .state .shape) b m ≡ false → flatDoes (flatWith k row) (found k (lends b m c)) (lends b m c) ≡ refuse 2 (flatWith k row)
     unfolding flatDoes
-    flat-wrong e = rw e
+    flat-wrong e = rw (lengths-hand (k .state .shape) b m 0 ∙ e)
 
-module _ (s : State) (b m : List ℕ) (w : whole s ≡ true) (e : lengthsRight (s .n) (s .l) b m ≡ false) where
+module _ (s : State) (b m : List ℕ) (w : whole s ≡ true) (e : lengthsRight (s .shape) b m ≡ false) where
   issue-2 : (x : ℕ) (access : Access) → does (record { state = s; bytes = b; memory = m }) (issues x access) ≡ refused 2 s b m
   unfolding does issue issueNo refusal unless
   issue-2 x access = rw (w, e)
@@ -241,21 +256,21 @@ module _ (s : State) (b m : List ℕ) (w : whole s ≡ true) (e : lengthsRight (
   unfolding does drain drainNo refusal unless
   drain-2 = rw (w, e)
 
-wrong-lengths : (s : State) (c : Call) (b m : List ℕ) → whole s ≡ true → lengthsRight (s .n) (s .l) b m ≡ false → does (record { state = s; bytes = b; memory = m }) c ≡ refused 2 s b m
+wrong-lengths : (s : State) (c : Call) (b m : List ℕ) → whole s ≡ true → lengthsRight (s .shape) b m ≡ false → does (record { state = s; bytes = b; memory = m }) c ≡ refused 2 s b m
 wrong-lengths s (issues x access) b m w e = issue-2 s b m w e x access
 wrong-lengths s (steps x) b m w e = step-2 s b m w e x
 wrong-lengths s drains b m w e = drain-2 s b m w e
 wrong-lengths s (lends b' m' c) b m w e = ⊎-elim
     (λ r. does-right (record { state = s; bytes = b; memory = m }) b' m' c r ∙ wrong-lengths s c b m w e)
     (λ r. does-wrong (record { state = s; bytes = b; memory = m }) b' m' c r
-    ∙ ap (λ (o : Out). elsewhere o (record { state = s; bytes = b; memory = m })) (wrong-lengths s c b' m' w r)) (true-or-false (lengthsRight (s .n) (s .l) b' m'))
+    ∙ ap (λ (o : Out). elsewhere o (record { state = s; bytes = b; memory = m })) (wrong-lengths s c b' m' w r)) (true-or-false (lengthsRight (s .shape) b' m'))
 
 pub follows : (k : Kept) (row : Row) → Ok k row → (c : Call) → Value32 c → Follows k c row
 follows k row a (issues x access) q = follows-issue a x access q
 follows k row a (steps x) q = follows-step a x
 follows k row a drains q = follows-drain a
-follows k row a (lends b m c) q = go (follows k row a c q) (true-or-false (lengthsRight (k .state .n) (k .state .l) b m))
+follows k row a (lends b m c) q = go (follows k row a c q) (true-or-false (lengthsRight (k .state .shape) b m))
   where
-    go : Follows k c row → (lengthsRight (k .state .n) (k .state .l) b m ≡ true) ⊎ (lengthsRight (k .state .n) (k .state .l) b m ≡ false) → Follows k (lends b m c) row
+    go : Follows k c row → (lengthsRight (k .state .shape) b m ≡ true) ⊎ (lengthsRight (k .state .shape) b m ≡ false) → Follows k (lends b m c) row
     go f (inl e) = follows-by (does k c) (flatDoes (flatWith k row) (found k c) c) (f .row') (does-right k b m c e) (flat-right k b m c row e) (f .said-is) (f .flat-is) (f .ok-still) (f .n-is)
     go f (inr e) = follows-no a 2 (does-wrong k b m c e ∙ ap (λ (o : Out). elsewhere o k) (wrong-lengths (k .state) c b m (a .is-whole) e)) (flat-wrong k b m c row e)

@@ -12,11 +12,12 @@ use Rattle.laws.specs.Choice.{pick}
 use Rattle.laws.specs.Bytes.{putW}
 use Rattle.laws.proofs.Choice.{not-both-ways, true-or-false}
 use Rattle.laws.proofs.Splice.{lt-or-ge}
+use Rattle.geometry.specs.declared.Shape.{Shape}
 use Rattle.geometry.specs.TagMemory.{blockPlace}
 use Rattle.block.specs.Block.{blockOr0}
 use Rattle.block.proofs.Blocks.{blockOr0-fits}
 use Rattle.memory.specs.True.{blockAt}
-use Rattle.line.specs.Word.{used, blockOf, changed, heldBy, word}
+use Rattle.line.specs.Word.{used, blockOf, changed, heldBy, word, lineBlocks, marks}
 use Rattle.line.specs.Find.{lineOf}
 use Rattle.rules.specs.State.{Rows}
 use Rattle.rules.specs.Place.{lineBytes, rowsFit, placeLine, writtenBack, Brought, filled, withMemory, withLines, bringIn}
@@ -41,7 +42,7 @@ pub record Same (B l : ℕ) (r r' : Rows) : Type 0 where
 pub record Placing (B l : ℕ) (r : Rows) (i b : ℕ) (c : Bool) (y : List ℕ) : Type 0 where
   pub line-lt : i < l
   pub exists : b < B
-  pub small : B < 16777215
+  pub small : B < lineBlocks
   pub long : length y ≡ 64
   pub nobody : (j : ℕ) → Has (r .lines) j b → ⊥
   pub clean : c ≡ false → y ≡ blockAt (r .memory) b
@@ -49,7 +50,7 @@ pub record Placing (B l : ℕ) (r : Rows) (i b : ℕ) (c : Bool) (y : List ℕ) 
 -- line i, which has block b, gets the bytes y: the line bytes change there alone
 pub record Writing (B l : ℕ) (r : Rows) (i b : ℕ) (bytes' y : List ℕ) : Type 0 where
   pub has-it : Has (r .lines) i b
-  pub small : B < 16777215
+  pub small : B < lineBlocks
   pub long : length bytes' ≡ length (r .bytes)
   pub here : lineBytes bytes' i ≡ y
   pub there : (j : ℕ) → j < l → (j ≡ i → ⊥) → lineBytes bytes' j ≡ lineBytes (r .bytes) j
@@ -103,7 +104,7 @@ module _ {B l : ℕ} {r : Rows} (G : Good B l r) where
 
   -- placing: what was in the line is first written back
   module _ {i b : ℕ} {c : Bool} {y : List ℕ} (p : Placing B l r i b c y) where
-    fits-word : b < 16777215
+    fits-word : b < lineBlocks
     fits-word = omega (arith, p .small, p .exists)
 
     is-used : used (word b c 0) ≡ true
@@ -156,7 +157,7 @@ module _ {B l : ℕ} {r : Rows} (G : Good B l r) where
     h : Has (r .lines) i b
     h = w .has-it
 
-    b-small : b < 16777215
+    b-small : b < lineBlocks
     b-small = omega (arith, G .exists i b h, w .small)
 
     w-used : used (word b true 0) ≡ true
@@ -223,8 +224,8 @@ module _ {B l : ℕ} {r : Rows} (G : Good B l r) where
         (λ o. (o .1, λ q. o .0 (G .one j i b (subst (λ (z : ℕ). Has (r .lines) j z) q (o .1)) h))) (new-or-old G freeing j d h')
 
   -- line i, which has a block, names another holder, or none
-  module _ (i b k : ℕ) (h : Has (r .lines) i b) (small : B < 16777215) (kl : k < 128) where
-    m-small : blockOf (at (r .lines) i) < 16777215
+  module _ (i b k : ℕ) (h : Has (r .lines) i b) (small : B < lineBlocks) (kl : k < marks) where
+    m-small : blockOf (at (r .lines) i) < lineBlocks
     m-small = rw (h .is-block) (omega (arith, G .exists i b h))
 
     abbrev marked : List ℕ
@@ -264,37 +265,37 @@ pub record BringsIn (B l : ℕ) (r : Rows) (b : ℕ) (o : Brought) : Type 0 wher
   pub rows : Same B l r (o .rows)
   pub had : (j d : ℕ) → Has (o .rows .lines) j d → Has (r .lines) j d ⊎ (d ≡ b)
 
-module _ {B l t : ℕ} {H : ℕ → ℕ} (r : Rows) (hand b : ℕ) (G : Good B l r) (v : Lined B l t H (r .lines)) (few : t < l) (fit : rowsFit l (r .lines) (r .bytes) ≡ true)
-    (bl : b < B) (small : B < 16777215) where
-  pub brings-in : BringsIn B l r b (bringIn l hand b r)
-  brings-in = go (lt-or-ge (lineOf (r .lines) l b) l)
+module _ (shape : Shape) {B : ℕ} {H : ℕ → ℕ} (r : Rows) (b : ℕ) (G : Good B (shape .l) r) (v : Lined B (shape .l) (shape .t) H (r .lines)) (few : shape .t < shape .l) (fit : rowsFit (shape .l) (r .lines) (r .bytes) ≡ true)
+    (bl : b < B) (small : B < lineBlocks) where
+  pub brings-in : BringsIn B (shape .l) r b (bringIn shape b r)
+  brings-in = go (lt-or-ge (lineOf (r .lines) (shape .l) b) (shape .l))
     where
-      il : placeLine l hand (r .lines) (r .bytes) < l
-      il = place-loose r hand v few fit .0
+      il : placeLine shape (r .lines) (r .bytes) < shape .l
+      il = place-loose shape r v few fit .0
 
       -- the bytes that are brought in are the block's
-      brought : l ≤ lineOf (r .lines) l b → Placing B l r (placeLine l hand (r .lines) (r .bytes)) b false (blockAt (r .memory) b)
+      brought : shape .l ≤ lineOf (r .lines) (shape .l) b → Placing B (shape .l) r (placeLine shape (r .lines) (r .bytes)) b false (blockAt (r .memory) b)
       brought q = record {
         line-lt = il;
         exists = bl;
         small = small;
         long = block-length (r .memory) b (omega (arith, G .memory-long));
-        nobody = λ j h. lineOf-none (r .lines) l b j q (G .low j b h) h;
+        nobody = λ j h. lineOf-none (r .lines) (shape .l) b j q (G .low j b h) h;
         clean = λ _. refl;
       }
 
-      fetched : l ≤ lineOf (r .lines) l b → blockOr0 (writtenBack (r .lines) (r .bytes) (r .memory) (placeLine l hand (r .lines) (r .bytes))) (blockPlace b) ≡ blockAt (r .memory) b
+      fetched : shape .l ≤ lineOf (r .lines) (shape .l) b → blockOr0 (writtenBack (r .lines) (r .bytes) (r .memory) (placeLine shape (r .lines) (r .bytes))) (blockPlace b) ≡ blockAt (r .memory) b
       fetched q = blockOr0-fits _ (blockPlace b) (omega (arith, back-length G _ il)) ∙ back-rest G _ il b bl (brought q .nobody _)
 
-      same : (q : l ≤ lineOf (r .lines) l b) (d : ℕ) → d < B → Dec (d ≡ b)
-          → content l (filled (withMemory r (writtenBack (r .lines) (r .bytes) (r .memory) (placeLine l hand (r .lines) (r .bytes)))) (placeLine l hand (r .lines) (r .bytes)) b false (blockAt (r .memory) b)) d
-          ≡ content l r d
+      same : (q : shape .l ≤ lineOf (r .lines) (shape .l) b) (d : ℕ) → d < B → Dec (d ≡ b)
+          → content (shape .l) (filled (withMemory r (writtenBack (r .lines) (r .bytes) (r .memory) (placeLine shape (r .lines) (r .bytes)))) (placeLine shape (r .lines) (r .bytes)) b false (blockAt (r .memory) b)) d
+          ≡ content (shape .l) r d
       same q d dl (yes e) = rw e (placed-here G (brought q) ∙ sym (content-out G b (brought q .nobody)))
       same q d dl (no e) = placed-other G (brought q) d dl e
 
-      go : (lineOf (r .lines) l b < l) ⊎ (l ≤ lineOf (r .lines) l b) → BringsIn B l r b (bringIn l hand b r)
-      go (inl q) = rw (bring-found l hand b r q) (record { rows = record { good = G; same = λ d dl. refl }; had = λ j d h. inl h })
-      go (inr q) = rw (bring-placed l hand b r q il, place-memory r hand v few fit, fetched q) (record {
+      go : (lineOf (r .lines) (shape .l) b < shape .l) ⊎ (shape .l ≤ lineOf (r .lines) (shape .l) b) → BringsIn B (shape .l) r b (bringIn shape b r)
+      go (inl q) = rw (bring-found shape b r q) (record { rows = record { good = G; same = λ d dl. refl }; had = λ j d h. inl h })
+      go (inr q) = rw (bring-placed shape b r q il, place-memory shape r v few fit, fetched q) (record {
         rows = record { good = placed-good G (brought q); same = λ d dl. same q d dl (ℕ-discrete d b) };
         had = placed-had G (brought q);
       })

@@ -12,6 +12,8 @@ use borrow.Author.Tests.{lt-ltb, le-ltb, eqb-true}
 use Rattle.tracker.specs.Tracker.{atFinish, idle, isIdle, holdsAt, goesTo, counted}
 use Rattle.tracker.proofs.Phases.{idle-loose, finish-holds}
 use Rattle.geometry.proofs.Places.{leafOf-lt, byteOf-lt, group-lt, mapBlockOf-lt, leaf-has-bit, mapByteOf-lt, mapBitOf-lt}
+use Rattle.geometry.specs.declared.Shape.{Shape}
+use Rattle.geometry.specs.Shape.{atHand}
 use Rattle.geometry.specs.TagMemory.{groups, values, blocks, mapBlocks, leafOf, byteOf, mapBlockOf, mapByteOf, mapBitOf, blockPlace}
 use Rattle.laws.specs.Choice.{pick, both, no as negated}
 use Rattle.laws.proofs.Choice.{not-both-ways, true-or-false, both-left, both-right, both-true, both-false-left, both-false-right}
@@ -22,7 +24,7 @@ use Rattle.tracker.specs.declared.Phase.{Phase}
 use Rattle.tracker.specs.declared.Phase.the-variants.{Idle, Probe, Map, Leaf, Set, Clear}
 use Rattle.tracker.specs.declared.Tracker.{Tracker}
 use Rattle.tracker.specs.Answer.{Said, read, done, same}
-use Rattle.line.specs.Word.{blockOf, holder, held, word}
+use Rattle.line.specs.Word.{blockOf, holder, held, word, lineBlocks, marks}
 use Rattle.line.specs.Find.{lineOf}
 use Rattle.rules.specs.State.{Rows, trackerAt}
 use Rattle.rules.specs.Whole.{mapBlock, holds}
@@ -51,53 +53,53 @@ pub record Plays (n l x : ℕ) (ts : List Tracker) (row : Row) (u : Tracker) (c 
   pub tracker-is : o .tracker ≡ trackerBy u c
   pub agrees : Agrees n l (o .rows) (set ts x (o .tracker)) (rowBy row u c)
 
-module _ {n l x : ℕ} {ts : List Tracker} {row : Row} {u : Tracker} {c : Course} {r' : Rows} (hand : ℕ) where
-  plays-waits : c ≡ Course.waits → Agrees n l r' (set ts x (counted u)) row → Plays n l x ts row u c (waits u hand r')
+module _ {n l x : ℕ} {ts : List Tracker} {row : Row} {u : Tracker} {c : Course} {r' : Rows} (shape : Shape) where
+  plays-waits : c ≡ Course.waits → Agrees n l r' (set ts x (counted u)) row → Plays n l x ts row u c (waits u shape r')
   plays-waits e a = rw e (record { said-is = refl; tracker-is = refl; agrees = a })
 
-  plays-goes : (p : Phase) → c ≡ Course.goes p → Agrees n l r' (set ts x (goesTo u p)) row → Plays n l x ts row u c (goes u p hand r')
+  plays-goes : (p : Phase) → c ≡ Course.goes p → Agrees n l r' (set ts x (goesTo u p)) row → Plays n l x ts row u c (goes u p shape r')
   plays-goes p e a = rw e (record { said-is = refl; tracker-is = refl; agrees = a })
 
-  plays-takes : (p : Phase) → c ≡ Course.takes p → Agrees n l r' (set ts x (goesTo u p)) (after row u) → Plays n l x ts row u c (goes u p hand r')
+  plays-takes : (p : Phase) → c ≡ Course.takes p → Agrees n l r' (set ts x (goesTo u p)) (after row u) → Plays n l x ts row u c (goes u p shape r')
   plays-takes p e a = rw e (record { said-is = refl; tracker-is = refl; agrees = a })
 
-  plays-ends : (a : Said) → c ≡ Course.ends → a ≡ answer row u → Agrees n l r' (set ts x idle) (after row u) → Plays n l x ts row u c (ends a hand r')
+  plays-ends : (a : Said) → c ≡ Course.ends → a ≡ answer row u → Agrees n l r' (set ts x idle) (after row u) → Plays n l x ts row u c (ends a shape r')
   plays-ends a e s g = rw e (record { said-is = s; tracker-is = refl; agrees = g })
 
-  plays-read : (v : ℕ) → c ≡ Course.ends → u .write ≡ false → v ≡ row (u .group) → Agrees n l r' (set ts x idle) row → Plays n l x ts row u c (ends (read v (turnsOf u)) hand r')
+  plays-read : (v : ℕ) → c ≡ Course.ends → u .write ≡ false → v ≡ row (u .group) → Agrees n l r' (set ts x idle) row → Plays n l x ts row u c (ends (read v (turnsOf u)) shape r')
   plays-read v e w q g = plays-ends (read v (turnsOf u)) e (ap (λ (z : ℕ). read z (turnsOf u)) q ∙ sym (answer-read row u w)) (rw (after-read row u w) g)
 
-  plays-same : c ≡ Course.ends → u .write ≡ true → row (u .group) ≡ u .value → Agrees n l r' (set ts x idle) row → Plays n l x ts row u c (ends (same (turnsOf u)) hand r')
+  plays-same : c ≡ Course.ends → u .write ≡ true → row (u .group) ≡ u .value → Agrees n l r' (set ts x idle) row → Plays n l x ts row u c (ends (same (turnsOf u)) shape r')
   plays-same e w q g = plays-ends (same (turnsOf u)) e (sym (answer-same row u w q)) (rw (after-same row u w q) g)
 
-  plays-finishes : c ≡ Course.finishes → Agrees n l r' (set ts x idle) row → Plays n l x ts row u c (ends (done (turnsOf u)) hand r')
+  plays-finishes : c ≡ Course.finishes → Agrees n l r' (set ts x idle) row → Plays n l x ts row u c (ends (done (turnsOf u)) shape r')
   plays-finishes e a = rw e (record { said-is = refl; tracker-is = refl; agrees = a })
 
 not-finish : (p q : Phase) → p ≡ q → atFinish q ≡ false → atFinish p ≡ true → ⊥
 not-finish p q e f h = not-both-ways h (rw e f)
 
-module _ (n l hand j : ℕ) (u : Tracker) (r : Rows) where
-  at-leaf-write : u .write ≡ true → holding n l hand j u r Leaf ≡ leafWrite l hand j u r
-  at-leaf-write w = ap (λ (b : Bool). pick b (leafWrite l hand j u r) (leafRead l hand j u r)) w
+module _ (shape : Shape) (j : ℕ) (u : Tracker) (r : Rows) where
+  at-leaf-write : u .write ≡ true → holding shape j u r Leaf ≡ leafWrite shape j u r
+  at-leaf-write w = ap (λ (b : Bool). pick b (leafWrite shape j u r) (leafRead shape j u r)) w
 
-  at-leaf-read : u .write ≡ false → holding n l hand j u r Leaf ≡ leafRead l hand j u r
-  at-leaf-read w = ap (λ (b : Bool). pick b (leafWrite l hand j u r) (leafRead l hand j u r)) w
+  at-leaf-read : u .write ≡ false → holding shape j u r Leaf ≡ leafRead shape j u r
+  at-leaf-read w = ap (λ (b : Bool). pick b (leafWrite shape j u r) (leafRead shape j u r)) w
 
 one-zero : {a : ℕ} → a ≡ 1 → a ≡ 0 → ⊥
 one-zero {a} p q = omega arith
 
-module _ (sit : Situation) (row : Row) (A : Agrees (sit .n) (sit .l) (sit .r) (sit .ts) row) where
+module _ (sit : Situation) (row : Row) (A : Agrees (sit .shape .n) (sit .shape .l) (sit .r) (sit .ts) row) where
+  abbrev shape : Shape
+  shape = sit .shape
+
   abbrev n : ℕ
-  n = sit .n
+  n = shape .n
 
   abbrev t : ℕ
-  t = sit .t
+  t = shape .t
 
   abbrev l : ℕ
-  l = sit .l
-
-  abbrev hand : ℕ
-  hand = sit .hand
+  l = shape .l
 
   abbrev x : ℕ
   x = sit .x
@@ -127,10 +129,10 @@ module _ (sit : Situation) (row : Row) (A : Agrees (sit .n) (sit .l) (sit .r) (s
   bit-ok = leaf-has-bit n _ leaf-ok
 
   few : t < l
-  few = omega (arith, l-least n t l (sit .limits-ok))
+  few = omega (arith, l-least shape (sit .limits-ok))
 
-  small : blocks n < 16777215
-  small = blocks-small n t l (sit .limits-ok)
+  small : blocks n < lineBlocks
+  small = blocks-small shape (sit .limits-ok)
 
   value-ok : u .value < values
   value-ok = subst (λ (z : Tracker). z .value < values) (sit .is-u) (A .small x)
@@ -175,18 +177,18 @@ module _ (sit : Situation) (row : Row) (A : Agrees (sit .n) (sit .l) (sit .r) (s
 
   -- Probe
   module _ (ph : u .phase ≡ Probe) (found hd : Bool) where
-    probe-to : course row found hd u Probe ≡ Course.goes Map → Plays n l x ts row u (course row found hd u Probe) (goes u Map hand r)
-    probe-to e = plays-goes hand Map e (moves-on here (A .lined) Probe ph refl (goesTo u Map) value-ok tt)
+    probe-to : course row found hd u Probe ≡ Course.goes Map → Plays n l x ts row u (course row found hd u Probe) (goes u Map shape r)
+    probe-to e = plays-goes shape Map e (moves-on here (A .lined) Probe ph refl (goesTo u Map) value-ok tt)
 
-    plays-probe : found ≡ ltb (lineOf (r .lines) l (leafOf (u .group))) l → Plays n l x ts row u (course row found hd u Probe) (probe l hand u r)
+    plays-probe : found ≡ ltb (lineOf (r .lines) l (leafOf (u .group))) l → Plays n l x ts row u (course row found hd u Probe) (probe shape u r)
     plays-probe f = go (lt-or-ge (lineOf (r .lines) l (leafOf (u .group))) l) (true-or-false (u .write))
       where
         go : (lineOf (r .lines) l (leafOf (u .group)) < l) ⊎ (l ≤ lineOf (r .lines) l (leafOf (u .group))) → (u .write ≡ true) ⊎ (u .write ≡ false)
-            → Plays n l x ts row u (course row found hd u Probe) (probe l hand u r)
-        go (inr q) w = rw (probe-miss l hand u r q) (probe-to (probe-missed row found hd u (f ∙ le-ltb _ _ q)))
+            → Plays n l x ts row u (course row found hd u Probe) (probe shape u r)
+        go (inr q) w = rw (probe-miss shape u r q) (probe-to (probe-missed row found hd u (f ∙ le-ltb _ _ q)))
         go (inl q) (inr w) =
             let h = lineOf-has (r .lines) l (leafOf (u .group)) q in
-            rw (probe-read l hand u r q w) (plays-read hand _ (probe-ends row found hd u (f ∙ lt-ltb _ _ q) (reads-nothing row u w)) w
+            rw (probe-read shape u r q w) (plays-read shape _ (probe-ends row found hd u (f ∙ lt-ltb _ _ q) (reads-nothing row u w)) w
             (group-read here _ h (A .lined _ _ leaf-ok h)) (moves-on here (A .lined) Probe ph refl idle zero-ok tt))
         go (inl q) (inl w) = eqs (ℕ-discrete (groupIn (r .bytes) (lineOf (r .lines) l (leafOf (u .group))) (u .group)) (u .value))
           where
@@ -196,33 +198,33 @@ module _ (sit : Situation) (row : Row) (A : Agrees (sit .n) (sit .l) (sit .r) (s
             g : groupIn (r .bytes) (lineOf (r .lines) l (leafOf (u .group))) (u .group) ≡ row (u .group)
             g = group-read here _ h (A .lined _ _ leaf-ok h)
 
-            eqs : Dec (groupIn (r .bytes) (lineOf (r .lines) l (leafOf (u .group))) (u .group) ≡ u .value) → Plays n l x ts row u (course row found hd u Probe) (probe l hand u r)
-            eqs (yes d) = rw (probe-same l hand u r q w d) (plays-same hand (probe-ends row found hd u (f ∙ lt-ltb _ _ q) (same-nothing row u w (sym g ∙ d))) w (sym g ∙ d)
+            eqs : Dec (groupIn (r .bytes) (lineOf (r .lines) l (leafOf (u .group))) (u .group) ≡ u .value) → Plays n l x ts row u (course row found hd u Probe) (probe shape u r)
+            eqs (yes d) = rw (probe-same shape u r q w d) (plays-same shape (probe-ends row found hd u (f ∙ lt-ltb _ _ q) (same-nothing row u w (sym g ∙ d))) w (sym g ∙ d)
                 (moves-on here (A .lined) Probe ph refl idle zero-ok tt))
-            eqs (no d) = rw (probe-other l hand u r q w d) (probe-to (probe-goes row found hd u (other-something row u w (λ e. d (g ∙ e)))))
+            eqs (no d) = rw (probe-other shape u r q w d) (probe-to (probe-goes row found hd u (other-something row u w (λ e. d (g ∙ e)))))
 
   -- bringing in
-  map-brings : Brings (blocks n) l t (heldOf n ts) r (mapBlock n (u .group)) (bringIn l hand (mapBlock n (u .group)) r)
-  map-brings = brings r hand (mapBlock n (u .group)) (sit .lined) few (sit .rows-fit) (sit .hand-lt) map-ok small
+  map-brings : Brings shape (blocks n) (heldOf n ts) r (mapBlock n (u .group)) (bringIn shape (mapBlock n (u .group)) r)
+  map-brings = brings shape r (mapBlock n (u .group)) (sit .lined) few (sit .rows-fit) (sit .hand-lt) map-ok small
 
-  map-in : BringsIn (blocks n) l r (mapBlock n (u .group)) (bringIn l hand (mapBlock n (u .group)) r)
-  map-in = brings-in r hand (mapBlock n (u .group)) (A .good) (sit .lined) few (sit .rows-fit) map-ok small
+  map-in : BringsIn (blocks n) l r (mapBlock n (u .group)) (bringIn shape (mapBlock n (u .group)) r)
+  map-in = brings-in shape r (mapBlock n (u .group)) (A .good) (sit .lined) few (sit .rows-fit) map-ok small
 
   leaf-small : leafOf (u .group) < blocks n
   leaf-small = omega (arith, leaf-ok)
 
-  leaf-brings : Brings (blocks n) l t (heldOf n ts) r (leafOf (u .group)) (bringIn l hand (leafOf (u .group)) r)
-  leaf-brings = brings r hand (leafOf (u .group)) (sit .lined) few (sit .rows-fit) (sit .hand-lt) leaf-small small
+  leaf-brings : Brings shape (blocks n) (heldOf n ts) r (leafOf (u .group)) (bringIn shape (leafOf (u .group)) r)
+  leaf-brings = brings shape r (leafOf (u .group)) (sit .lined) few (sit .rows-fit) (sit .hand-lt) leaf-small small
 
-  leaf-in : BringsIn (blocks n) l r (leafOf (u .group)) (bringIn l hand (leafOf (u .group)) r)
-  leaf-in = brings-in r hand (leafOf (u .group)) (A .good) (sit .lined) few (sit .rows-fit) leaf-small small
+  leaf-in : BringsIn (blocks n) l r (leafOf (u .group)) (bringIn shape (leafOf (u .group)) r)
+  leaf-in = brings-in shape r (leafOf (u .group)) (A .good) (sit .lined) few (sit .rows-fit) leaf-small small
 
   -- Map
   module _ (ph : u .phase ≡ Map) where
-    mark-fits : x + 1 < 128
-    mark-fits = omega (arith, t-most n t l (sit .limits-ok))
+    mark-fits : x + 1 < marks
+    mark-fits = omega (arith, t-most shape (sit .limits-ok))
 
-    map-lined : (i j : ℕ) → j < n → Has (bringIn l hand (mapBlock n (u .group)) r .rows .lines) i j → tagged row j ≡ true
+    map-lined : (i j : ℕ) → j < n → Has (bringIn shape (mapBlock n (u .group)) r .rows .lines) i j → tagged row j ≡ true
     map-lined i j q h = ⊎-elim (λ o. A .lined i j q o) (λ e. absurd (let z : j ≡ n + mapBlockOf (leafOf (u .group)) = e in omega arith)) (map-in .had i j h)
 
     -- the block is held by nobody
@@ -230,34 +232,34 @@ module _ (sit : Situation) (row : Row) (A : Agrees (sit .n) (sit .l) (sit .r) (s
       none-finishes : (y : ℕ) → Finishes (trackerAt ts y) (leafOf (u .group)) → ⊥
       none-finishes y f = free y (finish-holds (trackerAt ts y .phase) (f .is-there)) (finish-block y _ f)
 
-      map-bit : bitIn (bringIn l hand (mapBlock n (u .group)) r .rows .bytes) (bringIn l hand (mapBlock n (u .group)) r .line) (u .group) ≡ pick (tagged row (leafOf (u .group))) 1 0
+      map-bit : bitIn (bringIn shape (mapBlock n (u .group)) r .rows .bytes) (bringIn shape (mapBlock n (u .group)) r .line) (u .group) ≡ pick (tagged row (leafOf (u .group))) 1 0
       map-bit = bit-read (map-in .rows) _ (map-brings .has-it) none-finishes
 
-      map-idle : Agrees n l (bringIn l hand (mapBlock n (u .group)) r .rows) (set ts x idle) row
+      map-idle : Agrees n l (bringIn shape (mapBlock n (u .group)) r .rows) (set ts x idle) row
       map-idle = moves-on (map-in .rows) map-lined Map ph refl idle zero-ok tt
 
       map-held : course row found hd u Map ≡ Course.goes Leaf → (u .write ≡ false → tagged row (leafOf (u .group)) ≡ true)
-          → Plays n l x ts row u (course row found hd u Map) (holdsMap x u (bringIn l hand (mapBlock n (u .group)) r))
+          → Plays n l x ts row u (course row found hd u Map) (holdsMap x u (bringIn shape (mapBlock n (u .group)) r))
       map-held e ft = plays-goes _ Leaf e (moves-on
           (same-then (map-in .rows) (mark-same (map-in .rows .good) _ _ (x + 1) (map-brings .has-it) small mark-fits))
           (λ i j q h. map-lined i j q (mark-had (map-in .rows .good) _ _ (x + 1) (map-brings .has-it) small mark-fits i j h))
           Map ph refl (goesTo u Leaf) value-ok ft)
 
-      plays-onMap : Plays n l x ts row u (course row found hd u Map) (onMap x u (bringIn l hand (mapBlock n (u .group)) r))
+      plays-onMap : Plays n l x ts row u (course row found hd u Map) (onMap x u (bringIn shape (mapBlock n (u .group)) r))
       plays-onMap = go (true-or-false (tagged row (leafOf (u .group)))) (true-or-false (u .write)) (ℕ-discrete (u .value) 0)
         where
           go : (tagged row (leafOf (u .group)) ≡ true) ⊎ (tagged row (leafOf (u .group)) ≡ false) → (u .write ≡ true) ⊎ (u .write ≡ false) → Dec (u .value ≡ 0)
-              → Plays n l x ts row u (course row found hd u Map) (onMap x u (bringIn l hand (mapBlock n (u .group)) r))
+              → Plays n l x ts row u (course row found hd u Map) (onMap x u (bringIn shape (mapBlock n (u .group)) r))
           go (inl g) w d =
-              rw (map-hold x u (bringIn l hand (mapBlock n (u .group)) r) (one-zero (map-bit ∙ rw g))) (map-held (map-goes-tagged row found hd u hf g) (λ _. g))
+              rw (map-hold x u (bringIn shape (mapBlock n (u .group)) r) (one-zero (map-bit ∙ rw g))) (map-held (map-goes-tagged row found hd u hf g) (λ _. g))
           go (inr g) (inr w) d =
-              rw (map-read x u (bringIn l hand (mapBlock n (u .group)) r) (map-bit ∙ rw g) w) (plays-read _ 0 (map-ends row found hd u hf g (reads-nothing row u w)) w (sym (untagged row _ g (u .group) refl)) map-idle)
+              rw (map-read x u (bringIn shape (mapBlock n (u .group)) r) (map-bit ∙ rw g) w) (plays-read _ 0 (map-ends row found hd u hf g (reads-nothing row u w)) w (sym (untagged row _ g (u .group) refl)) map-idle)
           go (inr g) (inl w) (yes d) =
               let e : row (u .group) ≡ u .value = untagged row _ g (u .group) refl ∙ sym d in
-              rw (map-same x u (bringIn l hand (mapBlock n (u .group)) r) (map-bit ∙ rw g) w d) (plays-same _ (map-ends row found hd u hf g (same-nothing row u w e)) w e map-idle)
+              rw (map-same x u (bringIn shape (mapBlock n (u .group)) r) (map-bit ∙ rw g) w d) (plays-same _ (map-ends row found hd u hf g (same-nothing row u w e)) w e map-idle)
           go (inr g) (inl w) (no d) =
               let e : row (u .group) ≡ u .value → ⊥ = (λ q. d (sym q ∙ untagged row _ g (u .group) refl)) in
-              rw (map-create x u (bringIn l hand (mapBlock n (u .group)) r) (map-bit ∙ rw g) w d) (map-held (map-goes row found hd u hf (other-something row u w e)) (λ f. absurd (not-both-ways w f)))
+              rw (map-create x u (bringIn shape (mapBlock n (u .group)) r) (map-bit ∙ rw g) w d) (map-held (map-goes row found hd u hf (other-something row u w e)) (λ f. absurd (not-both-ways w f)))
 
     -- somebody holds the block exactly if its line names a holder
     named-some : lineOf (r .lines) l (mapBlock n (u .group)) < l → held (at (r .lines) (lineOf (r .lines) l (mapBlock n (u .group)))) ≡ true → someHolds n t ts (mapBlock n (u .group)) ≡ true
@@ -290,18 +292,18 @@ module _ (sit : Situation) (row : Row) (A : Agrees (sit .n) (sit .l) (sit .r) (s
         let hh : held (at (r .lines) (lineOf (r .lines) l (mapBlock n (u .group)))) ≡ true = rw i (holder-held _ p) in
         not-both-ways (both-true _ _ (rw i (lt-ltb _ _ (low (sit .lined) (w .line) _ hm))) hh) e
 
-    plays-map : (found hd : Bool) → hd ≡ someHolds n t ts (mapBlock n (u .group)) → Plays n l x ts row u (course row found hd u Map) (map n l hand x u r)
+    plays-map : (found hd : Bool) → hd ≡ someHolds n t ts (mapBlock n (u .group)) → Plays n l x ts row u (course row found hd u Map) (map shape x u r)
     plays-map found hd hs = go (lt-or-ge (lineOf (r .lines) l (mapBlock n (u .group))) l) (true-or-false (held (at (r .lines) (lineOf (r .lines) l (mapBlock n (u .group))))))
       where
         on : (both (ltb (lineOf (r .lines) l (mapBlock n (u .group))) l) (held (at (r .lines) (lineOf (r .lines) l (mapBlock n (u .group))))) ≡ false)
-            → Plays n l x ts row u (course row found hd u Map) (map n l hand x u r)
-        on e = rw (map-on n l hand x u r e (map-brings .line-lt)) (plays-onMap (not-named e) found hd (hs ∙ some-not (not-named e)))
+            → Plays n l x ts row u (course row found hd u Map) (map shape x u r)
+        on e = rw (map-on shape x u r e (map-brings .line-lt)) (plays-onMap (not-named e) found hd (hs ∙ some-not (not-named e)))
 
         go : (lineOf (r .lines) l (mapBlock n (u .group)) < l) ⊎ (l ≤ lineOf (r .lines) l (mapBlock n (u .group)))
             → (held (at (r .lines) (lineOf (r .lines) l (mapBlock n (u .group)))) ≡ true) ⊎ (held (at (r .lines) (lineOf (r .lines) l (mapBlock n (u .group)))) ≡ false)
-            → Plays n l x ts row u (course row found hd u Map) (map n l hand x u r)
-        go (inl q) (inl h) = rw (map-wait n l hand x u r q h)
-            (plays-waits hand (map-waits row found hd u (hs ∙ named-some q h)) (moves-on here (A .lined) Map ph refl (counted u) value-ok (subst (λ (p : Phase). Fits row (counted u) p) (sym ph) tt)))
+            → Plays n l x ts row u (course row found hd u Map) (map shape x u r)
+        go (inl q) (inl h) = rw (map-wait shape x u r q h)
+            (plays-waits shape (map-waits row found hd u (hs ∙ named-some q h)) (moves-on here (A .lined) Map ph refl (counted u) value-ok (subst (λ (p : Phase). Fits row (counted u) p) (sym ph) tt)))
         go (inl q) (inr h) = on (both-false-right _ _ h)
         go (inr q) h = on (both-false-left _ _ (le-ltb _ _ q))
 
@@ -357,9 +359,9 @@ module _ (sit : Situation) (row : Row) (A : Agrees (sit .n) (sit .l) (sit .r) (s
       bit-write : Writing (blocks n) l r j fm fbytes fy
       bit-write = record { has-it = in-j; small = small; long = flong; here = fhere; there = fthere }
 
-      plays-finish : Plays n l x ts row u Course.finishes (finish n hand j bit u r)
+      plays-finish : Plays n l x ts row u Course.finishes (finish shape j bit u r)
       unfolding finish
-      plays-finish = plays-finishes hand refl (agrees-bit A x xlong idle zero-ok (leafOf (u .group)) bit leaf-ok bl tg
+      plays-finish = plays-finishes shape refl (agrees-bit A x xlong idle zero-ok (leafOf (u .group)) bit leaf-ok bl tg
           (λ k' f. sym (f .is-leaf) ∙ ap (λ (z : Tracker). leafOf (z .group)) (sit .is-u))
           (written-good (A .good) bit-write)
           (λ d q ne. written-other (A .good) bit-write d q ne)
@@ -370,7 +372,7 @@ module _ (sit : Situation) (row : Row) (A : Agrees (sit .n) (sit .l) (sit .r) (s
     -- Leaf
     module _ (ph : u .phase ≡ Leaf) (found hd : Bool) where
       abbrev b : Brought
-      b = bringIn l hand (leafOf (u .group)) r
+      b = bringIn shape (leafOf (u .group)) r
 
       none-finishes-now : (y : ℕ) → Finishes (trackerAt ts y) (leafOf (u .group)) → ⊥
       none-finishes-now y f = go (ℕ-discrete y x)
@@ -383,28 +385,28 @@ module _ (sit : Situation) (row : Row) (A : Agrees (sit .n) (sit .l) (sit .r) (s
       in-j-still : Has (b .rows .lines) j (mapBlock n (u .group))
       in-j-still = has-same (r .lines) (b .rows .lines) j (mapBlock n (u .group)) (leaf-brings .keeps j (omega (arith, named-j))) in-j
 
-      zero-128 : 0 < 128
-      zero-128 = omega arith
+      zero-mark : 0 < marks
+      zero-mark = omega arith
 
       -- it ends where it is, the row as it was, and lets go
       let-go-here : Agrees n l (withLines r (letGo (r .lines) j)) (set ts x idle) row
-      let-go-here = moves-on (mark-same (A .good) j _ 0 in-j small zero-128)
-          (λ i d q hd. A .lined i d q (mark-had (A .good) j _ 0 in-j small zero-128 i d hd)) Leaf ph refl idle zero-ok tt
+      let-go-here = moves-on (mark-same (A .good) j _ 0 in-j small zero-mark)
+          (λ i d q hd. A .lined i d q (mark-had (A .good) j _ 0 in-j small zero-mark i d hd)) Leaf ph refl idle zero-ok tt
 
       module _ (tg : tagged row (leafOf (u .group)) ≡ true) where
         leaf-lined : (i d : ℕ) → d < n → Has (b .rows .lines) i d → tagged row d ≡ true
         leaf-lined i d q hd = ⊎-elim (λ o. A .lined i d q o) (λ e. rw e tg) (leaf-in .had i d hd)
 
         let-go-there : Agrees n l (withLines (b .rows) (letGo (b .rows .lines) j)) (set ts x idle) row
-        let-go-there = moves-on (same-then (leaf-in .rows) (mark-same (leaf-in .rows .good) j _ 0 in-j-still small zero-128))
-            (λ i d q hd. leaf-lined i d q (mark-had (leaf-in .rows .good) j _ 0 in-j-still small zero-128 i d hd)) Leaf ph refl idle zero-ok tt
+        let-go-there = moves-on (same-then (leaf-in .rows) (mark-same (leaf-in .rows .good) j _ 0 in-j-still small zero-mark))
+            (λ i d q hd. leaf-lined i d q (mark-had (leaf-in .rows .good) j _ 0 in-j-still small zero-mark i d hd)) Leaf ph refl idle zero-ok tt
 
         group-is : groupIn (b .rows .bytes) (b .line) (u .group) ≡ row (u .group)
         group-is = group-read (leaf-in .rows) (b .line) (leaf-brings .has-it) tg
 
-      plays-leafRead : u .write ≡ false → tagged row (leafOf (u .group)) ≡ true → Plays n l x ts row u (course row found hd u Leaf) (leafRead l hand j u r)
-      plays-leafRead w tg = rw (leafRead-is l hand j u r (leaf-brings .line-lt))
-          (plays-read (b .hand) _ (leaf-ends row found hd u (reads-nothing row u w)) w (group-is tg) (let-go-there tg))
+      plays-leafRead : u .write ≡ false → tagged row (leafOf (u .group)) ≡ true → Plays n l x ts row u (course row found hd u Leaf) (leafRead shape j u r)
+      plays-leafRead w tg = rw (leafRead-is shape j u r (leaf-brings .line-lt))
+          (plays-read (b .shape) _ (leaf-ends row found hd u (reads-nothing row u w)) w (group-is tg) (let-go-there tg))
 
       module _ (wr : u .write ≡ true) where
         -- v put into a leaf that had a tag
@@ -443,10 +445,10 @@ module _ (sit : Situation) (row : Row) (A : Agrees (sit .n) (sit .l) (sit .r) (s
 
           -- the leaf is empty now
           clears : allZero withV ≡ true → Plays n l x ts row u (course row found hd u Leaf)
-              (goes u Clear (b .hand) (record { lines = set (b .rows .lines) (b .line) 0; bytes = bytesWith u b; memory = b .rows .memory }))
+              (goes u Clear (b .shape) (record { lines = set (b .rows .lines) (b .line) 0; bytes = bytesWith u b; memory = b .rows .memory }))
           clears z =
               let off : tagged (put row (u .group) (u .value)) (leafOf (u .group)) ≡ false = tagged-empty (put row (u .group) (u .value)) (leafOf (u .group)) withV v-long new-groups z in
-              plays-takes (b .hand) Clear (leaf-clears row found hd u (other-something row u wr ne) tg (rw (after-write row u wr) off))
+              plays-takes (b .shape) Clear (leaf-clears row found hd u (other-something row u wr ne) tg (rw (after-write row u wr) off))
               (rw (after-write row u wr) (agrees-leaf A x xlong (goesTo u Clear) value-ok (u .group) (u .value) group-ok alone (not-at-finish Leaf ph refl)
               (freed-good (leaf-in .rows .good) put-write)
               (λ d q n'. freed-other (leaf-in .rows .good) put-write d q n' ∙ leaf-in .rows .same d q)
@@ -473,13 +475,13 @@ module _ (sit : Situation) (row : Row) (A : Agrees (sit .n) (sit .l) (sit .r) (s
           w-j = written-still (leaf-in .rows .good) put-write j _ apart in-j-still
 
           w-mark : Same (blocks n) l written (withLines written (letGo (written .lines) j))
-          w-mark = mark-same w-good j _ 0 w-j small zero-128
+          w-mark = mark-same w-good j _ 0 w-j small zero-mark
 
           stays : allZero withV ≡ false → Plays n l x ts row u (course row found hd u Leaf)
-              (ends (done (turnsOf u)) (b .hand) (withLines written (letGo (written .lines) j)))
+              (ends (done (turnsOf u)) (b .shape) (withLines written (letGo (written .lines) j)))
           stays z =
               let on : tagged (put row (u .group) (u .value)) (leafOf (u .group)) ≡ true = tagged-full (put row (u .group) (u .value)) (leafOf (u .group)) withV v-long new-groups z in
-              plays-ends (b .hand) (done (turnsOf u)) (leaf-done row found hd u (other-something row u wr ne) tg (rw (after-write row u wr) on)) (sym (answer-done row u wr ne))
+              plays-ends (b .shape) (done (turnsOf u)) (leaf-done row found hd u (other-something row u wr ne) tg (rw (after-write row u wr) on)) (sym (answer-done row u wr ne))
               (rw (after-write row u wr) (agrees-leaf A x xlong idle zero-ok (u .group) (u .value) group-ok alone (not-at-finish Leaf ph refl)
               (w-mark .good)
               (λ d q n'. w-mark .same d q
@@ -488,7 +490,7 @@ module _ (sit : Situation) (row : Row) (A : Agrees (sit .n) (sit .l) (sit .r) (s
               ∙ written-here (leaf-in .rows .good) put-write)))
               (λ i d q hd. still-tagged on d (leaf-lined tg i d q
               (written-had (leaf-in .rows .good) put-write i d
-              (mark-had w-good j _ 0 w-j small zero-128 i d hd))) (ℕ-discrete d (leafOf (u .group))))
+              (mark-had w-good j _ 0 w-j small zero-mark i d hd))) (ℕ-discrete d (leafOf (u .group))))
               (inr (on ∙ sym tg))
               tt))
             where
@@ -500,12 +502,12 @@ module _ (sit : Situation) (row : Row) (A : Agrees (sit .n) (sit .l) (sit .r) (s
           plays-putIn = ⊎-elim (λ z. rw (putIn-empty j u b (ap allZero put-in-line ∙ z)) (clears z)) (λ z. rw (putIn-done j u b (ap allZero put-in-line ∙ z)) (stays z)) (true-or-false (allZero withV))
 
         -- under bit 1
-        plays-under1 : tagged row (leafOf (u .group)) ≡ true → Plays n l x ts row u (course row found hd u Leaf) (writeUnder1 l hand j u r)
+        plays-under1 : tagged row (leafOf (u .group)) ≡ true → Plays n l x ts row u (course row found hd u Leaf) (writeUnder1 shape j u r)
         plays-under1 tg = go (ℕ-discrete (row (u .group)) (u .value))
           where
-            go : Dec (row (u .group) ≡ u .value) → Plays n l x ts row u (course row found hd u Leaf) (writeUnder1 l hand j u r)
-            go (yes e) = rw (write1-same l hand j u r (leaf-brings .line-lt) (group-is tg ∙ e)) (plays-same (b .hand) (leaf-ends row found hd u (same-nothing row u wr e)) wr e (let-go-there tg))
-            go (no e) = rw (write1-put l hand j u r (leaf-brings .line-lt) (λ q. e (sym (group-is tg) ∙ q))) (plays-putIn tg e)
+            go : Dec (row (u .group) ≡ u .value) → Plays n l x ts row u (course row found hd u Leaf) (writeUnder1 shape j u r)
+            go (yes e) = rw (write1-same shape j u r (leaf-brings .line-lt) (group-is tg ∙ e)) (plays-same (b .shape) (leaf-ends row found hd u (same-nothing row u wr e)) wr e (let-go-there tg))
+            go (no e) = rw (write1-put shape j u r (leaf-brings .line-lt) (λ q. e (sym (group-is tg) ∙ q))) (plays-putIn tg e)
 
         -- under bit 0: the old content is 64 zero bytes
         module _ (tg : tagged row (leafOf (u .group)) ≡ false) where
@@ -517,10 +519,10 @@ module _ (sit : Situation) (row : Row) (A : Agrees (sit .n) (sit .l) (sit .r) (s
             none-lined i hd = not-both-ways (A .lined i (leafOf (u .group)) leaf-ok hd) tg
 
             abbrev p : ℕ
-            p = placeLine l hand (r .lines) (r .bytes)
+            p = placeLine shape (r .lines) (r .bytes)
 
             p-lt : p < l
-            p-lt = place-loose r hand (sit .lined) few (sit .rows-fit) .0
+            p-lt = place-loose shape r (sit .lined) few (sit .rows-fit) .0
 
             create : Placing (blocks n) l r p (leafOf (u .group)) true (newLeaf u)
             create = record {
@@ -539,7 +541,7 @@ module _ (sit : Situation) (row : Row) (A : Agrees (sit .n) (sit .l) (sit .r) (s
             tags d i q (inl hd) = put-far row (u .group) (u .value) d (λ e. none-lined i (rw e at hd)) ∙ A .lined i d q hd
             tags d i q (inr e) = rw e on
 
-            sets : Plays n l x ts row u (course row found hd u Leaf) (goes u Set (placeHand l hand (r .lines) (r .bytes))
+            sets : Plays n l x ts row u (course row found hd u Leaf) (goes u Set (atHand shape (placeHand shape (r .lines) (r .bytes)))
                 (filled (withMemory r (writtenBack (r .lines) (r .bytes) (r .memory) p)) p (leafOf (u .group)) true (newLeaf u)))
             sets = plays-takes _ Set (leaf-sets row found hd u (other-something row u wr (λ e. nz (sym e ∙ row-0))) tg)
                 (rw (after-write row u wr) (agrees-leaf A x xlong (goesTo u Set) value-ok (u .group) (u .value) group-ok alone (not-at-finish Leaf ph refl)
@@ -551,29 +553,29 @@ module _ (sit : Situation) (row : Row) (A : Agrees (sit .n) (sit .l) (sit .r) (s
                 (inl (record { is-there = refl; is-leaf = refl }))
                 on))
 
-            plays-create : Plays n l x ts row u (course row found hd u Leaf) (writeUnder0 l hand j u r)
+            plays-create : Plays n l x ts row u (course row found hd u Leaf) (writeUnder0 shape j u r)
             plays-create = go (lt-or-ge (lineOf (r .lines) l (leafOf (u .group))) l)
               where
-                go : (lineOf (r .lines) l (leafOf (u .group)) < l) ⊎ (l ≤ lineOf (r .lines) l (leafOf (u .group))) → Plays n l x ts row u (course row found hd u Leaf) (writeUnder0 l hand j u r)
+                go : (lineOf (r .lines) l (leafOf (u .group)) < l) ⊎ (l ≤ lineOf (r .lines) l (leafOf (u .group))) → Plays n l x ts row u (course row found hd u Leaf) (writeUnder0 shape j u r)
                 go (inl q) = absurd (none-lined _ (lineOf-has (r .lines) l (leafOf (u .group)) q))
-                go (inr q) = rw (write0-place l hand j u r nz q p-lt, place-memory r hand (sit .lined) few (sit .rows-fit)) sets
+                go (inr q) = rw (write0-place shape j u r nz q p-lt, place-memory shape r (sit .lined) few (sit .rows-fit)) sets
 
-          plays-under0 : Plays n l x ts row u (course row found hd u Leaf) (writeUnder0 l hand j u r)
+          plays-under0 : Plays n l x ts row u (course row found hd u Leaf) (writeUnder0 shape j u r)
           plays-under0 = go (ℕ-discrete (u .value) 0)
             where
-              go : Dec (u .value ≡ 0) → Plays n l x ts row u (course row found hd u Leaf) (writeUnder0 l hand j u r)
-              go (yes e) = rw (write0-same l hand j u r e) (plays-same hand (leaf-ends row found hd u (same-nothing row u wr (row-0 ∙ sym e))) wr (row-0 ∙ sym e) let-go-here)
+              go : Dec (u .value ≡ 0) → Plays n l x ts row u (course row found hd u Leaf) (writeUnder0 shape j u r)
+              go (yes e) = rw (write0-same shape j u r e) (plays-same shape (leaf-ends row found hd u (same-nothing row u wr (row-0 ∙ sym e))) wr (row-0 ∙ sym e) let-go-here)
               go (no e) = plays-create e
 
-        plays-leafWrite : Plays n l x ts row u (course row found hd u Leaf) (leafWrite l hand j u r)
+        plays-leafWrite : Plays n l x ts row u (course row found hd u Leaf) (leafWrite shape j u r)
         plays-leafWrite = go (true-or-false (tagged row (leafOf (u .group))))
           where
             bit : bitIn (r .bytes) j (u .group) ≡ pick (tagged row (leafOf (u .group))) 1 0
             bit = bit-read here j in-j none-finishes-now
 
-            go : (tagged row (leafOf (u .group)) ≡ true) ⊎ (tagged row (leafOf (u .group)) ≡ false) → Plays n l x ts row u (course row found hd u Leaf) (leafWrite l hand j u r)
-            go (inl tg) = rw (leafWrite-1 l hand j u r (one-zero (bit ∙ rw tg))) (plays-under1 tg)
-            go (inr tg) = rw (leafWrite-0 l hand j u r (bit ∙ rw tg)) (plays-under0 tg)
+            go : (tagged row (leafOf (u .group)) ≡ true) ⊎ (tagged row (leafOf (u .group)) ≡ false) → Plays n l x ts row u (course row found hd u Leaf) (leafWrite shape j u r)
+            go (inl tg) = rw (leafWrite-1 shape j u r (one-zero (bit ∙ rw tg))) (plays-under1 tg)
+            go (inr tg) = rw (leafWrite-0 shape j u r (bit ∙ rw tg)) (plays-under0 tg)
 
   fits-now : Fits row u (u .phase)
   fits-now = subst (λ (z : Tracker). Fits row z (z .phase)) (sit .is-u) (A .fits x)
@@ -583,17 +585,17 @@ module _ (sit : Situation) (row : Row) (A : Agrees (sit .n) (sit .l) (sit .r) (s
 
   -- every step
   pub plays-byPhase : (found hd : Bool) → found ≡ ltb (lineOf (r .lines) l (leafOf (u .group))) l → hd ≡ someHolds n t ts (mapBlock n (u .group))
-      → (p : Phase) → u .phase ≡ p → Plays n l x ts row u (course row found hd u p) (byPhase n l hand x u r p)
+      → (p : Phase) → u .phase ≡ p → Plays n l x ts row u (course row found hd u p) (byPhase shape x u r p)
   plays-byPhase found hd f s Idle e = absurd (not-both-ways (rw e) (sit .busy))
   plays-byPhase found hd f s Probe e = plays-probe e found hd f
   plays-byPhase found hd f s Map e = plays-map e found hd s
-  plays-byPhase found hd f s Leaf e = rw (inLine-is n l hand u r Leaf (j-lt sit (rw e))) (go (true-or-false (u .write)))
+  plays-byPhase found hd f s Leaf e = rw (inLine-is shape u r Leaf (j-lt sit (rw e))) (go (true-or-false (u .write)))
     where
       go : (u .write ≡ true) ⊎ (u .write ≡ false)
-          → Plays n l x ts row u (course row found hd u Leaf) (holding n l hand (lineOf (r .lines) l (mapBlock n (u .group))) u r Leaf)
-      go (inl w) = subst (λ (o : Turned). Plays n l x ts row u (course row found hd u Leaf) o) (sym (at-leaf-write n l hand _ u r w)) (plays-leafWrite (rw e) e found hd w)
-      go (inr w) = subst (λ (o : Turned). Plays n l x ts row u (course row found hd u Leaf) o) (sym (at-leaf-read n l hand _ u r w)) (plays-leafRead (rw e) e found hd w (fits-at Leaf e w))
-  plays-byPhase found hd f s Set e = rw (inLine-is n l hand u r Set (j-lt sit (rw e)))
+          → Plays n l x ts row u (course row found hd u Leaf) (holding shape (lineOf (r .lines) l (mapBlock n (u .group))) u r Leaf)
+      go (inl w) = subst (λ (o : Turned). Plays n l x ts row u (course row found hd u Leaf) o) (sym (at-leaf-write shape _ u r w)) (plays-leafWrite (rw e) e found hd w)
+      go (inr w) = subst (λ (o : Turned). Plays n l x ts row u (course row found hd u Leaf) o) (sym (at-leaf-read shape _ u r w)) (plays-leafRead (rw e) e found hd w (fits-at Leaf e w))
+  plays-byPhase found hd f s Set e = rw (inLine-is shape u r Set (j-lt sit (rw e)))
       (plays-finish (rw e) 1 (omega arith) (rw (fits-at Set e)))
-  plays-byPhase found hd f s Clear e = rw (inLine-is n l hand u r Clear (j-lt sit (rw e)))
+  plays-byPhase found hd f s Clear e = rw (inLine-is shape u r Clear (j-lt sit (rw e)))
       (plays-finish (rw e) 0 (omega arith) (rw (fits-at Clear e)))

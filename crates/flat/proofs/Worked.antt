@@ -52,7 +52,7 @@ pub record Worked : Type 0 where
   pub answered : answers begun calls ≡ said
   pub flat-answered : flatAnswers (flatOf begun) (given begun calls) ≡ said
   -- lines were taken from other blocks: the hand has moved on
-  pub evicted : ended begun calls .state .hand ≡ 2
+  pub evicted : ended begun calls .state .shape .hand ≡ 2
   pub reads : plainGroup 4 (ended begun calls .memory) 17 ≡ 10
   pub reads-emptied : plainGroup 4 (ended begun calls .memory) 33 ≡ 0
   pub row : flatEnded (flatOf begun) (given begun calls) .row 17 ≡ 10

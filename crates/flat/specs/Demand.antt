@@ -3,6 +3,7 @@ use mathlib.Core.List.{List, [], _∷_}
 use mathlib.Core.Bool.{Bool, false}
 use Prim.Native.Nat.{_<_}
 use lib.Dec.{ltb}
+use Rattle.geometry.specs.Shape.{atHand}
 use Rattle.geometry.specs.TagMemory.{leafOf, values}
 use Rattle.memory.specs.PlainReading.{plainGroup}
 use Rattle.line.specs.Find.{lineOf}
@@ -13,7 +14,7 @@ use Rattle.flat.specs.Flat.{Flat, Given}
 -- Whether the leaf of the access that is stepped is in a line: all that an answer needs and the row does not say.
 unfoldable pub found : Kept → Call → Bool
 found k (issues x access) = false
-found k (steps x) = ltb (lineOf (k .state .lines) (k .state .l) (leafOf (trackerAt (k .state .trackers) x .group))) (k .state .l)
+found k (steps x) = ltb (lineOf (k .state .lines) (k .state .shape .l) (leafOf (trackerAt (k .state .trackers) x .group))) (k .state .shape .l)
 found k drains = false
 found k (lends b m c) = found k c
 
@@ -24,7 +25,7 @@ given k (c ∷ cs) = record { call = c; found = found k c } ∷ given (kept (doe
 
 -- the flat machine at the beginning of a run: the row is what the memory reads
 abbrev pub flatOf : Kept → Flat
-flatOf k = record { n = k .state .n; t = k .state .t; l = k .state .l; row = plainGroup (k .state .n) (k .memory); trackers = k .state .trackers }
+flatOf k = record { shape = atHand (k .state .shape) 0; row = plainGroup (k .state .shape .n) (k .memory); trackers = k .state .trackers }
 
 -- a call's value is an unsigned 32-bit number
 abbrev pub Value32 : Call → Type 0

@@ -5,6 +5,7 @@ use mathlib.Core.Bool.{Bool, true, false}
 use Prim.Native.Nat.{ℕ}
 use lib.Dec.{eqb}
 use lib.ListN.{set}
+use Rattle.geometry.specs.declared.Shape.{Shape}
 use Rattle.geometry.specs.TagMemory.{groupOn, leafOf}
 use Rattle.laws.specs.Choice.{pick, both, implies, no}
 use Rattle.laws.specs.Scan.{all}
@@ -109,11 +110,9 @@ pub record Effect : Type 0 where
 abbrev pub effectBy : ℕ → Tracker → Course → List Effect
 effectBy x t c = pick (moment c) (record { who = x; access = t } ∷ []) []
 
--- The flat machine: n leaves, t trackers, l lines as the limits have them; the row; the accesses.
+-- The flat machine: the shape, with a hand that rests at 0, for there are no lines; the row; the accesses.
 pub record Flat : Type 0 where
-  pub n : ℕ
-  pub t : ℕ
-  pub l : ℕ
+  pub shape : Shape
   pub row : Row
   pub trackers : List Tracker
 
@@ -125,10 +124,10 @@ someHolds n t trackers b = no (all (λ y. no (holds n (trackerAt trackers y) b))
 abbrev pub courseOf : Flat → Bool → ℕ → Course
 courseOf f found x =
     let t = trackerAt (f .trackers) x in
-    course (f .row) found (someHolds (f .n) (f .t) (f .trackers) (mapBlock (f .n) (t .group))) t (t .phase)
+    course (f .row) found (someHolds (f .shape .n) (f .shape .t) (f .trackers) (mapBlock (f .shape .n) (t .group))) t (t .phase)
 
 abbrev pub withRow : Flat → Row → ℕ → Tracker → Flat
-withRow f row x t = record { n = f .n; t = f .t; l = f .l; row = row; trackers = set (f .trackers) x t }
+withRow f row x t = record { shape = f .shape; row = row; trackers = set (f .trackers) x t }
 
 -- a call with what the row cannot know: for a step, whether its access's leaf is in a line
 pub record Given : Type 0 where
@@ -146,7 +145,7 @@ refuse c f = record { said = Said.no c; flat = f; effect = [] }
 -- "tracker number T or more" 5, "group 16n or more" 6, "issue to a busy tracker" 7, two accesses to one group 13
 unfoldable pub flatIssue : Flat → ℕ → Access → Reply
 flatIssue f x access =
-    unless (refusal (issueTests (f .n) (f .t) x access (f .trackers)))
+    unless (refusal (issueTests (f .shape) x access (f .trackers)))
     (record { said = ok; flat = withRow f (f .row) x (issued access); effect = [] }) (λ c. refuse c f)
 
 -- "tracker number T or more" 5, "step of an idle tracker" 8
@@ -154,12 +153,12 @@ unfoldable pub flatStep : Flat → Bool → ℕ → Reply
 flatStep f found x =
     let t = trackerAt (f .trackers) x in
     let c = courseOf f found x in
-    unless (refusal (stepTests (f .t) x (f .trackers)))
+    unless (refusal (stepTests (f .shape) x (f .trackers)))
     (record { said = says (f .row) t c; flat = withRow f (rowBy (f .row) t c) x (trackerBy t c); effect = effectBy x t c }) (λ r. refuse r f)
 
 -- every access is at rest
 abbrev pub allRest : Flat → Bool
-allRest f = all (λ x. isIdle (trackerAt (f .trackers) x)) (f .t)
+allRest f = all (λ x. isIdle (trackerAt (f .trackers) x)) (f .shape .t)
 
 -- "drain .. with any busy" 7: accepted exactly if all are at rest
 unfoldable pub flatDrain : Flat → Reply
@@ -170,7 +169,7 @@ unfoldable pub flatDoes : Flat → Bool → Call → Reply
 flatDoes f found (issues x access) = flatIssue f x access
 flatDoes f found (steps x) = flatStep f found x
 flatDoes f found drains = flatDrain f
-flatDoes f found (lends b m c) = pick (lengthsRight (f .n) (f .l) b m) (flatDoes f found c) (refuse 2 f)
+flatDoes f found (lends b m c) = pick (lengthsRight (f .shape) b m) (flatDoes f found c) (refuse 2 f)
 
 -- any list of calls: what they say, and what is left at the end
 unfoldable pub flatAnswers : Flat → List Given → List Said

@@ -1,6 +1,6 @@
 -- Groups follow each other, four bytes each, and fill the leaves.
 use mathlib.Core.Path.{_≡_}
-use Prim.Native.Nat.{ℕ, _*_, _≤_}
+use Prim.Native.Nat.{ℕ, _*_}
 use native.Mathlib.Omega.{arith}
 use Rattle.geometry.specs.TagMemory.{leafOf, byteOf, groups, blockPlace, groupPlace}
 
@@ -11,8 +11,3 @@ groupPlace-is g = omega arith
 pub blockPlace-groups : (n : ℕ) → blockPlace n ≡ 4 * groups n
 unfolding groups
 blockPlace-groups n = omega arith
-
--- at most k leaves have at most 16k groups
-pub groups-most : (n k : ℕ) → n ≤ k → groups n ≤ 16 * k
-unfolding groups
-groups-most n k h = omega arith

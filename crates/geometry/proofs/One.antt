@@ -1,7 +1,9 @@
--- Each promise of `Geometry` allows one result for one input: it is an equation to a definition.
+-- Each promise of `Geometry` and `Shape` allows one result for one input: it is an equation to a definition.
 use mathlib.Core.Path.{_≡_, sym, _∙_}
 use mathlib.Core.Bool.{Bool}
 use Prim.Native.Nat.{ℕ, _+_}
+use Rattle.geometry.specs.declared.Shape.{Shape}
+use Rattle.geometry.specs.Shape.{shapeOf, atHand}
 use Rattle.geometry.specs.TagMemory.{leafOf, byteOf, inLimits, mapBlockOf, mapByteOf, mapBitOf, mapBlocks, blocks, memoryLength, blockPlace, groupPlace, mapPlace}
 
 -- two results that equal one value are equal
@@ -46,3 +48,9 @@ group-place-one g = one
 
 pub map-place-one : (n k : ℕ) {r s : ℕ} → r ≡ mapPlace n k → s ≡ mapPlace n k → r ≡ s
 map-place-one n k = one
+
+pub start-one : (n t l : ℕ) {r s : Shape} → r ≡ shapeOf n t l → s ≡ shapeOf n t l → r ≡ s
+start-one n t l = one
+
+pub at-hand-one : (shape : Shape) (h : ℕ) {r s : Shape} → r ≡ atHand shape h → s ≡ atHand shape h → r ≡ s
+at-hand-one shape h = one

@@ -30,10 +30,10 @@ pub groups-leafOf : (g : ℕ) → groups (leafOf g) ≤ g
 unfolding leafOf groups
 groups-leafOf g = omega arith
 
--- every group has a number of 32 bits
-pub groups-most : (n : ℕ) → n ≤ 262144 → groups n ≤ 4194304
+-- at most k leaves have at most 16k groups
+pub groups-most : (n k : ℕ) → n ≤ k → groups n ≤ 16 * k
 unfolding groups
-groups-most n h = omega arith
+groups-most n k h = omega arith
 
 -- a group below 16n, from its leaf
 pub group-lt : (n g : ℕ) → leafOf g < n → g < groups n

@@ -1,1 +1,2 @@
 pub mod TagMemory
+pub mod Shape

@@ -1,7 +1,8 @@
-// 01 "The tag memory": the limits and the address rules, as a type of their own.
+// 01 "The tag memory": the limits and the address rules, as a type of their own; and the shape of a cache over such a memory.
 // No public function has a `requires`: the number of a leaf, a group or a block is 32 bits wide, and places are counted in 64.
 ghost use mathlib.Core.Path.{_≡_};
 ghost use Prim.Native.Nat.{_+_};
+ghost use Rattle.geometry.specs.Shape.{shapeOf, atHand};
 ghost use Rattle.geometry.specs.TagMemory.{leafOf, byteOf, groups, inLimits, mapBlockOf, mapByteOf, mapBitOf, mapBlocks, blocks, memoryLength, blockPlace, groupPlace, mapPlace};
 
 pub struct Geometry {}
@@ -133,5 +134,34 @@ impl Geometry {
         ensures { λ r. ⌜ r ≡ mapPlace n k ⌝ }
     {
         Self::BLOCK_LEN * (Self::map_number(n, k) as usize) + Self::map_byte_of(k)
+    }
+}
+
+// T trackers and L lines over n leaves, and the hand.
+pub struct Shape {
+    pub n: u32,
+    pub t: u32,
+    pub l: usize,
+    pub hand: usize,
+}
+
+impl Shape {
+    // T trackers and L lines over n leaves; the hand starts at 0.
+    pub fn start(n: u32, t: u32, l: usize) -> Shape
+        ensures { λ r. ⌜ r ≡ shapeOf n t l ⌝ }
+    {
+        Shape { n, t, l, hand: 0 }
+    }
+
+    // The same with the hand at line h.
+    pub fn at_hand(self, h: usize) -> Shape
+        ensures { λ r. ⌜ r ≡ atHand self h ⌝ }
+    {
+        Shape {
+            n: self.n,
+            t: self.t,
+            l: self.l,
+            hand: h,
+        }
     }
 }

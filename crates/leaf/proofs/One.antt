@@ -2,6 +2,7 @@
 use mathlib.Core.Path.{_≡_}
 use mathlib.Core.List.{List, []}
 use Prim.Native.Nat.{ℕ}
+use Rattle.geometry.specs.declared.Shape.{Shape}
 use Rattle.tracker.specs.declared.Tracker.{Tracker}
 use Rattle.rules.specs.State.{Rows}
 use Rattle.lines.specs.Lines.{rows}
@@ -10,12 +11,12 @@ use Rattle.turned.specs.Steps.{turned}
 use Rattle.turned.proofs.One.{turned-one, rows-one}
 use Rattle.leaf.specs.Leaf.{probeOn, leafOn}
 
-pub probe-one : (l hand : ℕ) (t : Tracker) (lines bytes : List ℕ) (r s : left.Turned)
-    → ((m : List ℕ) → turned r lines bytes m ≡ probeOn l hand t (rows lines bytes m))
-    → ((m : List ℕ) → turned s lines bytes m ≡ probeOn l hand t (rows lines bytes m)) → r ≡ s
-probe-one l hand t lines bytes r s p q = turned-one r s _ _ _ _ _ _ (p []) (q [])
+pub probe-one : (shape : Shape) (t : Tracker) (lines bytes : List ℕ) (r s : left.Turned)
+    → ((m : List ℕ) → turned r lines bytes m ≡ probeOn shape t (rows lines bytes m))
+    → ((m : List ℕ) → turned s lines bytes m ≡ probeOn shape t (rows lines bytes m)) → r ≡ s
+probe-one shape t lines bytes r s p q = turned-one r s _ _ _ _ _ _ (p []) (q [])
 
-pub leaf-one : (l hand j bit : ℕ) (t : Tracker) (was : Rows) (r s : left.Turned) (ls bs m ls′ bs′ m′ : List ℕ)
-    → turned r ls bs m ≡ leafOn l hand j bit t was
-    → turned s ls′ bs′ m′ ≡ leafOn l hand j bit t was → (r ≡ s) × (rows ls bs m ≡ rows ls′ bs′ m′)
-leaf-one l hand j bit t was r s ls bs m ls′ bs′ m′ p q = (turned-one r s _ _ _ _ _ _ p q, rows-one r s _ _ _ _ _ _ p q)
+pub leaf-one : (shape : Shape) (j bit : ℕ) (t : Tracker) (was : Rows) (r s : left.Turned) (ls bs m ls′ bs′ m′ : List ℕ)
+    → turned r ls bs m ≡ leafOn shape j bit t was
+    → turned s ls′ bs′ m′ ≡ leafOn shape j bit t was → (r ≡ s) × (rows ls bs m ≡ rows ls′ bs′ m′)
+leaf-one shape j bit t was r s ls bs m ls′ bs′ m′ p q = (turned-one r s _ _ _ _ _ _ p q, rows-one r s _ _ _ _ _ _ p q)

@@ -1,6 +1,7 @@
 // 01 "One step of a tracker": the steps on a leaf, Probe and Leaf, on rows that are lent.
 // No public function has a `requires`: where the rows are not of L lines, the step is refused.
 use geometry::Geometry;
+use geometry::Shape;
 use tracker::Phase;
 use tracker::Tracker;
 use turned::Turned;
@@ -36,99 +37,100 @@ fn let_go(lines: &mut [u32], i: usize)
 }
 
 // Probe. Leaf in a line: a read ends with the group; a write whose group equals v ends "same". Otherwise on to Map.
-pub fn probe(l: usize, hand: usize, t: Tracker, lines: &[u32], bytes: &[u8]) -> Turned
-    ensures { λ r. ⌜ OnAnyMemory (λ q. probeOn l hand t q) r (now (lines .entry)) (now (bytes .entry)) (now (lines .entry)) (now (bytes .entry)) ⌝ }
+pub fn probe(shape: Shape, t: Tracker, lines: &[u32], bytes: &[u8]) -> Turned
+    ensures { λ r. ⌜ OnAnyMemory (λ q. probeOn shape t q) r (now (lines .entry)) (now (bytes .entry)) (now (lines .entry)) (now (bytes .entry)) ⌝ }
 {
+    let l = shape.l;
     if !lines::rows_fit(l, lines, bytes) {
-        return turned::refuses(4, hand, t);
+        return turned::refuses(4, shape, t);
     }
     let g = t.group;
     let i = line::line_of(lines, l, Geometry::leaf_of(g));
     if l <= i {
-        return turned::goes(hand, t, Phase::Map);
+        return turned::goes(shape, t, Phase::Map);
     }
     let v = group_in(bytes, i, g);
     if !t.write {
-        return turned::ends_read(hand, t, v);
+        return turned::ends_read(shape, t, v);
     }
     if v == t.value {
-        return turned::ends_same(hand, t);
+        return turned::ends_same(shape, t);
     }
-    turned::goes(hand, t, Phase::Map)
+    turned::goes(shape, t, Phase::Map)
 }
 
 // Leaf, read. Bring in the leaf, end with the group, let go. The map block is in line j.
 fn leaf_read(
-    l: usize,
-    hand: usize,
+    shape: Shape,
     j: usize,
     t: Tracker,
     lines: &mut [u32],
     bytes: &mut [u8],
     memory: &mut [u8],
 ) -> Turned
-    requires { ⌜ (j < l) × (l ≤ length (now lines)) × (length (now bytes) ≡ 64 * l) ⌝ }
-    ensures { λ r. ⌜ turned r (now (lines .exit)) (now (bytes .exit)) (now (memory .exit)) ≡ leafRead l hand j t (rows (now (lines .entry)) (now (bytes .entry)) (now (memory .entry))) ⌝ }
+    requires { ⌜ (j < shape .l) × (shape .l ≤ length (now lines)) × (length (now bytes) ≡ 64 * shape .l) ⌝ }
+    ensures { λ r. ⌜ turned r (now (lines .exit)) (now (bytes .exit)) (now (memory .exit)) ≡ leafRead shape j t (rows (now (lines .entry)) (now (bytes .entry)) (now (memory .entry))) ⌝ }
 {
     let g = t.group;
-    let spot = lines::bring_in(l, hand, Geometry::leaf_of(g), lines, bytes, memory);
+    let l = shape.l;
+    let spot = lines::bring_in(shape, Geometry::leaf_of(g), lines, bytes, memory);
     let i = spot.line;
     if l <= i {
-        return turned::refuses(4, hand, t);
+        return turned::refuses(4, shape, t);
     }
     let v = group_in(bytes, i, g);
     let_go(lines, j);
-    turned::ends_read(spot.hand, t, v)
+    turned::ends_read(spot.shape, t, v)
 }
 
 // Put v in, the leaf in line i. All 64 bytes now zero: the line is made free, on to Finish (clear). Else the line is changed, end "done", let go.
 fn put_in(
     j: usize,
     i: usize,
-    hand: usize,
+    shape: Shape,
     t: Tracker,
     lines: &mut [u32],
     bytes: &mut [u8],
 ) -> Turned
     requires { ⌜ (j < length (now lines)) × (i < length (now lines)) × (64 * i + 64 ≤ length (now bytes)) ⌝ }
-    ensures { λ r. ⌜ ((m : List ℕ) → turned r (now (lines .exit)) (now (bytes .exit)) m ≡ putIn j t (record { line = i; hand = hand; rows = rows (now (lines .entry)) (now (bytes .entry)) m })) ⌝ }
+    ensures { λ r. ⌜ ((m : List ℕ) → turned r (now (lines .exit)) (now (bytes .exit)) m ≡ putIn j t (record { line = i; shape = shape; rows = rows (now (lines .entry)) (now (bytes .entry)) m })) ⌝ }
 {
     let g = t.group;
     let at = Geometry::BLOCK_LEN * i;
     block::put_group(bytes, at + Geometry::byte_of(g), t.value);
     if block::all_zero(&bytes[at..at + Geometry::BLOCK_LEN]) {
         lines[i] = 0;
-        return turned::goes(hand, t, Phase::Clear);
+        return turned::goes(shape, t, Phase::Clear);
     }
     lines[i] = line::word(Geometry::leaf_of(g), true, 0);
     let_go(lines, j);
-    turned::ends_done(hand, t)
+    turned::ends_done(shape, t)
 }
 
 // Leaf, write, under bit 1. Bring in the leaf; group equal to v: end "same", let go. Else put v in.
 fn write_under_1(
-    l: usize,
-    hand: usize,
+    shape: Shape,
     j: usize,
     t: Tracker,
     lines: &mut [u32],
     bytes: &mut [u8],
     memory: &mut [u8],
 ) -> Turned
-    requires { ⌜ (j < l) × (l ≤ length (now lines)) × (length (now bytes) ≡ 64 * l) ⌝ }
-    ensures { λ r. ⌜ turned r (now (lines .exit)) (now (bytes .exit)) (now (memory .exit)) ≡ writeUnder1 l hand j t (rows (now (lines .entry)) (now (bytes .entry)) (now (memory .entry))) ⌝ }
+    requires { ⌜ (j < shape .l) × (shape .l ≤ length (now lines)) × (length (now bytes) ≡ 64 * shape .l) ⌝ }
+    ensures { λ r. ⌜ turned r (now (lines .exit)) (now (bytes .exit)) (now (memory .exit)) ≡ writeUnder1 shape j t (rows (now (lines .entry)) (now (bytes .entry)) (now (memory .entry))) ⌝ }
 {
     let g = t.group;
-    let spot = lines::bring_in(l, hand, Geometry::leaf_of(g), lines, bytes, memory);
+    let l = shape.l;
+    let spot = lines::bring_in(shape, Geometry::leaf_of(g), lines, bytes, memory);
     let i = spot.line;
     if l <= i {
-        return turned::refuses(4, hand, t);
+        return turned::refuses(4, shape, t);
     }
     if group_in(bytes, i, g) == t.value {
         let_go(lines, j);
-        return turned::ends_same(spot.hand, t);
+        return turned::ends_same(spot.shape, t);
     }
-    put_in(j, i, spot.hand, t, lines, bytes)
+    put_in(j, i, spot.shape, t, lines, bytes)
 }
 
 // 64 zero bytes, never fetched, with v put in.
@@ -141,43 +143,43 @@ fn new_leaf(t: Tracker) -> [u8; Geometry::BLOCK_LEN]
 }
 
 // The new leaf goes into line i, changed; on to Finish (set).
-fn create(i: usize, hand: usize, t: Tracker, lines: &mut [u32], bytes: &mut [u8]) -> Turned
+fn create(i: usize, shape: Shape, t: Tracker, lines: &mut [u32], bytes: &mut [u8]) -> Turned
     requires { ⌜ (i < length (now lines)) × (64 * i + 64 ≤ length (now bytes)) ⌝ }
-    ensures { λ r. ⌜ ((m : List ℕ) → turned r (now (lines .exit)) (now (bytes .exit)) m ≡ goes t Set hand (filled (rows (now (lines .entry)) (now (bytes .entry)) m) i (leafOf (t .group)) true (newLeaf t))) ⌝ }
+    ensures { λ r. ⌜ ((m : List ℕ) → turned r (now (lines .exit)) (now (bytes .exit)) m ≡ goes t Set shape (filled (rows (now (lines .entry)) (now (bytes .entry)) m) i (leafOf (t .group)) true (newLeaf t))) ⌝ }
 {
     let leaf = new_leaf(t);
     lines[i] = line::word(Geometry::leaf_of(t.group), true, 0);
     block::write_block(bytes, Geometry::BLOCK_LEN * i, &leaf);
-    turned::goes(hand, t, Phase::Set)
+    turned::goes(shape, t, Phase::Set)
 }
 
 // Leaf, write, under bit 0. Group equal to v: end "same", let go. Else the leaf goes into its line if it has one, else is placed.
 fn write_under_0(
-    l: usize,
-    hand: usize,
+    shape: Shape,
     j: usize,
     t: Tracker,
     lines: &mut [u32],
     bytes: &mut [u8],
     memory: &mut [u8],
 ) -> Turned
-    requires { ⌜ (j < l) × (l ≤ length (now lines)) × (length (now bytes) ≡ 64 * l) ⌝ }
-    ensures { λ r. ⌜ turned r (now (lines .exit)) (now (bytes .exit)) (now (memory .exit)) ≡ writeUnder0 l hand j t (rows (now (lines .entry)) (now (bytes .entry)) (now (memory .entry))) ⌝ }
+    requires { ⌜ (j < shape .l) × (shape .l ≤ length (now lines)) × (length (now bytes) ≡ 64 * shape .l) ⌝ }
+    ensures { λ r. ⌜ turned r (now (lines .exit)) (now (bytes .exit)) (now (memory .exit)) ≡ writeUnder0 shape j t (rows (now (lines .entry)) (now (bytes .entry)) (now (memory .entry))) ⌝ }
 {
     if t.value == 0 {
         let_go(lines, j);
-        return turned::ends_same(hand, t);
+        return turned::ends_same(shape, t);
     }
+    let l = shape.l;
     let i = line::line_of(lines, l, Geometry::leaf_of(t.group));
     if i < l {
-        return create(i, hand, t, lines, bytes);
+        return create(i, shape, t, lines, bytes);
     }
-    let spot = lines::place(l, hand, lines, bytes, memory);
+    let spot = lines::place(shape, lines, bytes, memory);
     let at = spot.line;
     if l <= at {
-        return turned::refuses(4, hand, t);
+        return turned::refuses(4, shape, t);
     }
-    create(at, spot.hand, t, lines, bytes)
+    create(at, spot.shape, t, lines, bytes)
 }
 
 // The rows are of L lines, and j is one of them.
@@ -192,8 +194,7 @@ fn in_rows(l: usize, j: usize, lines: &[u32], bytes: &[u8]) -> bool
 
 // Leaf, by the bit that was read in the held map line, which is line j.
 pub fn leaf(
-    l: usize,
-    hand: usize,
+    shape: Shape,
     j: usize,
     bit: u8,
     t: Tracker,
@@ -201,16 +202,16 @@ pub fn leaf(
     bytes: &mut [u8],
     memory: &mut [u8],
 ) -> Turned
-    ensures { λ r. ⌜ turned r (now (lines .exit)) (now (bytes .exit)) (now (memory .exit)) ≡ leafOn l hand j bit t (rows (now (lines .entry)) (now (bytes .entry)) (now (memory .entry))) ⌝ }
+    ensures { λ r. ⌜ turned r (now (lines .exit)) (now (bytes .exit)) (now (memory .exit)) ≡ leafOn shape j bit t (rows (now (lines .entry)) (now (bytes .entry)) (now (memory .entry))) ⌝ }
 {
-    if !in_rows(l, j, lines, bytes) {
-        return turned::refuses(4, hand, t);
+    if !in_rows(shape.l, j, lines, bytes) {
+        return turned::refuses(4, shape, t);
     }
     if !t.write {
-        return leaf_read(l, hand, j, t, lines, bytes, memory);
+        return leaf_read(shape, j, t, lines, bytes, memory);
     }
     if bit == 0 {
-        return write_under_0(l, hand, j, t, lines, bytes, memory);
+        return write_under_0(shape, j, t, lines, bytes, memory);
     }
-    write_under_1(l, hand, j, t, lines, bytes, memory)
+    write_under_1(shape, j, t, lines, bytes, memory)
 }

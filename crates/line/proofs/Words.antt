@@ -8,7 +8,7 @@ use lib.Dec.{eqb, ltb}
 use borrow.Author.Tests.{ltb-true, ltb-false, eqb-true, eqb-false, lt-ltb, le-ltb, eq-eqb, ne-eqb}
 use Rattle.laws.specs.Choice.{pick, both}
 use Rattle.laws.proofs.Choice.{true-or-false, not-both-ways, both-true, both-false-left, both-false-right, both-left, both-right}
-use Rattle.line.specs.Word.{used, blockOf, changed, holder, held, has, word, heldBy, cleaned}
+use Rattle.line.specs.Word.{used, blockOf, changed, holder, held, has, word, heldBy, cleaned, lineBlocks, marks}
 
 -- a free line: no block, clean, not held
 pub free-used : used 0 ≡ false
@@ -76,61 +76,61 @@ has-key w b =
     (λ f. ne-eqb ((w + 255) / 256) (b + 1) (λ e. not-both-ways (has-is w b (omega arith) (omega arith)) f) ∙ sym f) (true-or-false (has w b))
 
 -- the parts of a word with its parts in their limits
-module _ (b : ℕ) (c : Bool) (h : ℕ) (p : b < 16777215) (q : h < 128) where
+module _ (b : ℕ) (c : Bool) (h : ℕ) (p : b < lineBlocks) (q : h < marks) where
   pub word-is : word b c h ≡ 1 + pick c 1 0 + 2 * h + 256 * b
   unfolding word
-  word-is = rw (both-true _ _ (lt-ltb b 16777215 p) (lt-ltb h 128 q))
+  word-is = rw (both-true _ _ (lt-ltb b lineBlocks p) (lt-ltb h marks q))
 
-pub word-changed : (b : ℕ) (c : Bool) (h : ℕ) → b < 16777215 → h < 128 → c ≡ true → word b c h ≡ 2 + 2 * h + 256 * b
+pub word-changed : (b : ℕ) (c : Bool) (h : ℕ) → b < lineBlocks → h < marks → c ≡ true → word b c h ≡ 2 + 2 * h + 256 * b
 word-changed b c h p q t = word-is b c h p q ∙ rw t (omega arith)
 
-pub word-clean : (b : ℕ) (c : Bool) (h : ℕ) → b < 16777215 → h < 128 → c ≡ false → word b c h ≡ 1 + 2 * h + 256 * b
+pub word-clean : (b : ℕ) (c : Bool) (h : ℕ) → b < lineBlocks → h < marks → c ≡ false → word b c h ≡ 1 + 2 * h + 256 * b
 word-clean b c h p q f = word-is b c h p q ∙ rw f (omega arith)
 
-pub word-past-block : (b : ℕ) (c : Bool) (h : ℕ) → 16777215 ≤ b → word b c h ≡ 0
+pub word-past-block : (b : ℕ) (c : Bool) (h : ℕ) → lineBlocks ≤ b → word b c h ≡ 0
 unfolding word
-word-past-block b c h p = rw (both-false-left (ltb b 16777215) (ltb h 128) (le-ltb b 16777215 p))
+word-past-block b c h p = rw (both-false-left (ltb b lineBlocks) (ltb h marks) (le-ltb b lineBlocks p))
 
-pub word-past-holder : (b : ℕ) (c : Bool) (h : ℕ) → 128 ≤ h → word b c h ≡ 0
+pub word-past-holder : (b : ℕ) (c : Bool) (h : ℕ) → marks ≤ h → word b c h ≡ 0
 unfolding word
-word-past-holder b c h p = rw (both-false-right (ltb b 16777215) (ltb h 128) (le-ltb h 128 p))
+word-past-holder b c h p = rw (both-false-right (ltb b lineBlocks) (ltb h marks) (le-ltb h marks p))
 
-pub word-below : (b : ℕ) (c : Bool) (h : ℕ) → b < 16777215 → h < 128 → word b c h < 4294967041
+pub word-below : (b : ℕ) (c : Bool) (h : ℕ) → b < lineBlocks → h < marks → word b c h < 4294967041
 word-below b true h p q = omega (arith, word-is b true h p q)
 word-below b false h p q = omega (arith, word-is b false h p q)
 
-pub used-word : (b : ℕ) (c : Bool) (h : ℕ) → b < 16777215 → h < 128 → used (word b c h) ≡ true
+pub used-word : (b : ℕ) (c : Bool) (h : ℕ) → b < lineBlocks → h < marks → used (word b c h) ≡ true
 used-word b c h p q = used-is _ (omega (arith, word-is b c h p q))
 
-pub blockOf-word : (b : ℕ) (c : Bool) (h : ℕ) → b < 16777215 → h < 128 → blockOf (word b c h) ≡ b
+pub blockOf-word : (b : ℕ) (c : Bool) (h : ℕ) → b < lineBlocks → h < marks → blockOf (word b c h) ≡ b
 unfolding blockOf
 blockOf-word b true h p q = omega (arith, word-is b true h p q)
 blockOf-word b false h p q = omega (arith, word-is b false h p q)
 
-pub changed-word : (b : ℕ) (c : Bool) (h : ℕ) → b < 16777215 → h < 128 → changed (word b c h) ≡ c
+pub changed-word : (b : ℕ) (c : Bool) (h : ℕ) → b < lineBlocks → h < marks → changed (word b c h) ≡ c
 unfolding changed
 changed-word b true h p q = eq-eqb ((word b true h - 1) % 2) 1 (omega (arith, word-is b true h p q))
 changed-word b false h p q = ne-eqb ((word b false h - 1) % 2) 1 (λ e. omega (arith, word-is b false h p q))
 
-pub holder-word : (b : ℕ) (c : Bool) (h : ℕ) → b < 16777215 → h < 128 → holder (word b c h) ≡ h
+pub holder-word : (b : ℕ) (c : Bool) (h : ℕ) → b < lineBlocks → h < marks → holder (word b c h) ≡ h
 unfolding holder
 holder-word b true h p q = omega (arith, word-is b true h p q)
 holder-word b false h p q = omega (arith, word-is b false h p q)
 
-pub held-word : (b : ℕ) (c : Bool) (h : ℕ) → b < 16777215 → h < 128 → held (word b c h) ≡ ltb 0 h
+pub held-word : (b : ℕ) (c : Bool) (h : ℕ) → b < lineBlocks → h < marks → held (word b c h) ≡ ltb 0 h
 unfolding held
 held-word b c h p q = rw (holder-word b c h p q)
 
-pub has-word : (b : ℕ) (c : Bool) (h : ℕ) → b < 16777215 → h < 128 → has (word b c h) b ≡ true
+pub has-word : (b : ℕ) (c : Bool) (h : ℕ) → b < lineBlocks → h < marks → has (word b c h) b ≡ true
 unfolding has
 has-word b c h p q = both-true _ _ (used-word b c h p q) (eq-eqb _ _ (blockOf-word b c h p q))
 
 -- a word whose block fits one; every used word below 4,294,967,041 is such
-pub blockOf-below : (w : ℕ) → w < 4294967041 → blockOf w < 16777215
+pub blockOf-below : (w : ℕ) → w < 4294967041 → blockOf w < lineBlocks
 unfolding blockOf
 blockOf-below w h = omega arith
 
-pub holder-below : (w : ℕ) → holder w < 128
+pub holder-below : (w : ℕ) → holder w < marks
 unfolding holder
 holder-below w = omega arith
 
@@ -177,7 +177,7 @@ pub same-word : (a b : ℕ) → used a ≡ true → used b ≡ true → blockOf 
 same-word a b u v p q r = sym (parts a u) ∙ rw (p, q, r) (parts b v)
 
 -- the same line with another holder
-module _ (w h : ℕ) (l : w < 4294967041) (q : h < 128) where
+module _ (w h : ℕ) (l : w < 4294967041) (q : h < marks) where
   pub used-heldBy : used (heldBy w h) ≡ true
   unfolding heldBy
   used-heldBy = used-word (blockOf w) (changed w) h (blockOf-below w l) q

@@ -17,13 +17,20 @@ blockOf w = (w - 1) / 256
 unfoldable pub changed : ℕ → Bool
 changed w = eqb ((w - 1) % 2) 1
 
--- the number of the tracker that holds the line's block, plus one; 0 for none
-unfoldable pub holder : ℕ → ℕ
-holder w = (w - 1) / 2 % 128
+-- the marks of a holder: its number plus one, or 0, in seven bits; and the trackers that a line can name
+abbrev pub marks : ℕ
+marks = 128
 
--- the trackers that a line can name: its holder's number plus one has seven bits
 abbrev pub holders : ℕ
 holders = 127
+
+-- the blocks that a line can have
+abbrev pub lineBlocks : ℕ
+lineBlocks = 16777215
+
+-- the number of the tracker that holds the line's block, plus one; 0 for none
+unfoldable pub holder : ℕ → ℕ
+holder w = (w - 1) / 2 % marks
 
 unfoldable pub held : ℕ → Bool
 held w = ltb 0 (holder w)
@@ -34,7 +41,7 @@ has w b = both (used w) (eqb (blockOf w) b)
 
 -- the line of block b, changed or clean, with its holder's number plus one or 0; free where a number is too large for it
 unfoldable pub word : ℕ → Bool → ℕ → ℕ
-word b c h = pick (both (ltb b 16777215) (ltb h 128)) (1 + pick c 1 0 + 2 * h + 256 * b) 0
+word b c h = pick (both (ltb b lineBlocks) (ltb h marks)) (1 + pick c 1 0 + 2 * h + 256 * b) 0
 
 -- the same line with another holder, and the same line clean
 unfoldable pub heldBy : ℕ → ℕ → ℕ

@@ -5,8 +5,14 @@ ghost use Prim.Native.Nat.{min};
 ghost use Rattle.line.specs.Word.{blockOf, changed, holder, held, has, word, heldBy, cleaned};
 ghost use Rattle.line.specs.Find.{lineOf, lowestFree, looseFrom, victim, after};
 
+// The marks of a holder: its number plus one, or 0.
+const MARKS: u32 = 128;
+
 // The trackers that a line can name.
 pub const HOLDERS: u32 = 127;
+
+// The blocks that a line can have.
+const BLOCKS: u32 = 16777215;
 
 // The block that a used line holds.
 pub fn block_of(w: u32) -> u32
@@ -26,7 +32,7 @@ pub fn changed(w: u32) -> bool
 pub fn holder(w: u32) -> u32
     ensures { λ r. ⌜ r ≡ holder w ⌝ }
 {
-    if w == 0 { 0 } else { (w - 1) / 2 % 128 }
+    if w == 0 { 0 } else { (w - 1) / 2 % MARKS }
 }
 
 // A tracker holds the line's block.
@@ -47,10 +53,10 @@ pub fn has(w: u32, b: u32) -> bool
 pub fn word(b: u32, c: bool, h: u32) -> u32
     ensures { λ r. ⌜ r ≡ word b c h ⌝ }
 {
-    if 16777215 <= b {
+    if BLOCKS <= b {
         return 0;
     }
-    if 128 <= h {
+    if MARKS <= h {
         return 0;
     }
     if c {

@@ -12,6 +12,8 @@ use borrow.Author.Tests.{lt-ltb, le-ltb, le-leb, lt-leb, ltb-true, leb-true, eqb
 use Rattle.laws.specs.Choice.{pick, both}
 use Rattle.laws.proofs.Choice.{true-or-false, both-true, both-left, both-right}
 use Rattle.laws.specs.Bytes.{part, fits, putW}
+use Rattle.geometry.specs.declared.Shape.{Shape}
+use Rattle.geometry.specs.Shape.{atHand}
 use Rattle.geometry.specs.TagMemory.{blockPlace}
 use Rattle.block.specs.Block.{blockOr0}
 use Rattle.block.proofs.Blocks.{copy-fits}
@@ -53,17 +55,17 @@ pub lines-enough : (l : ℕ) (lines bytes : List ℕ) {f : Bool} → l ≤ lengt
 unfolding rowsFit both
 lines-enough l lines bytes h e = rw (le-leb _ _ h) e
 
--- a line, a hand and rows, as a function leaves them
-abbrev pub left : (line hand : ℕ) (lines bytes memory : List ℕ) → Brought
-left line hand lines bytes memory = record { line = line; hand = hand; rows = rows lines bytes memory }
+-- a line, a shape and rows, as a function leaves them
+abbrev pub left : (line : ℕ) (shape : Shape) (lines bytes memory : List ℕ) → Brought
+left line shape lines bytes memory = record { line = line; shape = shape; rows = rows lines bytes memory }
 
 -- what an equation of two such says of each part
 module _ {b c : Brought} (e : b ≡ c) where
   pub line-is : b .line ≡ c .line
   line-is = ap (λ (y : Brought). y .line) e
 
-  pub hand-is : b .hand ≡ c .hand
-  hand-is = ap (λ (y : Brought). y .hand) e
+  pub shape-is : b .shape ≡ c .shape
+  shape-is = ap (λ (y : Brought). y .shape) e
 
   pub rows-are : b .rows ≡ c .rows
   rows-are = ap (λ (y : Brought). y .rows) e
@@ -83,101 +85,101 @@ module _ (lines bytes memory : List ℕ) (i : ℕ) where
   written-is {b} {at} h e eb ea em = em ∙ sym (copy-fits memory at bytes (64 * i) h) ∙ rw (ea, eb, e) refl
 
 -- a line is taken only where the rows fit
-module _ (l hand : ℕ) (lines bytes : List ℕ) where
-  placed-fits : placeLine l hand lines bytes < l → rowsFit l lines bytes ≡ true
+module _ (shape : Shape) (lines bytes : List ℕ) where
+  placed-fits : placeLine shape lines bytes < shape .l → rowsFit (shape .l) lines bytes ≡ true
   unfolding placeLine
-  placed-fits h = fits (rowsFit l lines bytes) refl
+  placed-fits h = fits (rowsFit (shape .l) lines bytes) refl
     where
-      fits : (f : Bool) → rowsFit l lines bytes ≡ f → rowsFit l lines bytes ≡ true
+      fits : (f : Bool) → rowsFit (shape .l) lines bytes ≡ f → rowsFit (shape .l) lines bytes ≡ true
       fits true e = e
       fits false e = absurd (omega (arith, rw e at h))
 
-  module _ (p : ℕ) (e : p ≡ placeLine l hand lines bytes) (h : p < l) where
-    pub placed-lines : l ≤ length lines
-    placed-lines = fit-lines l lines bytes (placed-fits (omega arith))
+  module _ (p : ℕ) (e : p ≡ placeLine shape lines bytes) (h : p < shape .l) where
+    pub placed-lines : shape .l ≤ length lines
+    placed-lines = fit-lines (shape .l) lines bytes (placed-fits (omega arith))
 
-    pub placed-bytes : length bytes ≡ 64 * l
-    placed-bytes = fit-bytes l lines bytes (placed-fits (omega arith))
+    pub placed-bytes : length bytes ≡ 64 * shape .l
+    placed-bytes = fit-bytes (shape .l) lines bytes (placed-fits (omega arith))
 
 -- placing, way by way
-module _ (l hand : ℕ) (lines bytes memory : List ℕ) where
-  pub placed-misfit : rowsFit l lines bytes ≡ false → left l hand lines bytes memory ≡ placed l hand (rows lines bytes memory)
+module _ (shape : Shape) (lines bytes memory : List ℕ) where
+  pub placed-misfit : rowsFit (shape .l) lines bytes ≡ false → left (shape .l) shape lines bytes memory ≡ placed shape (rows lines bytes memory)
   unfolding placeLine placeHand placeMemory both
-  placed-misfit e = sym (rw (e, le-ltb l l (omega arith)) refl)
+  placed-misfit e = sym (rw (e, le-ltb (shape .l) (shape .l) (omega arith)) refl)
 
-  pub placed-free : (i : ℕ) → rowsFit l lines bytes ≡ true → i ≡ lowestFree lines l → i < l → left i hand lines bytes memory ≡ placed l hand (rows lines bytes memory)
+  pub placed-free : (i : ℕ) → rowsFit (shape .l) lines bytes ≡ true → i ≡ lowestFree lines (shape .l) → i < shape .l → left i shape lines bytes memory ≡ placed shape (rows lines bytes memory)
   unfolding placeLine placeHand placeMemory both
   placed-free i f e h =
-      let h' : lowestFree lines l < l = omega arith in
-      rw e (sym (rw (f, lt-ltb _ _ h', lt-leb _ _ h', lt-ltb _ _ h', ← written-not lines bytes memory _ (changed-none _ (lowestFree-free lines l h'))) refl))
+      let h' : lowestFree lines (shape .l) < shape .l = omega arith in
+      rw e (sym (rw (f, lt-ltb _ _ h', lt-leb _ _ h', lt-ltb _ _ h', ← written-not lines bytes memory _ (changed-none _ (lowestFree-free lines (shape .l) h'))) refl))
 
   -- none is free, and every line is held
-  pub placed-none : (i : ℕ) → rowsFit l lines bytes ≡ true → l ≤ lowestFree lines l → i ≡ victim lines l hand → l ≤ i
-      → left i hand lines bytes memory ≡ placed l hand (rows lines bytes memory)
+  pub placed-none : (i : ℕ) → rowsFit (shape .l) lines bytes ≡ true → shape .l ≤ lowestFree lines (shape .l) → i ≡ victim lines (shape .l) (shape .hand) → shape .l ≤ i
+      → left i shape lines bytes memory ≡ placed shape (rows lines bytes memory)
   unfolding placeLine placeHand placeMemory both
   placed-none i f o e h =
-      let h' : l ≤ victim lines l hand = omega arith in
+      let h' : shape .l ≤ victim lines (shape .l) (shape .hand) = omega arith in
       rw e (sym (rw (f, le-ltb _ _ o, le-leb _ _ o, le-ltb _ _ h') refl))
 
-  pub placed-victim : (i next : ℕ) (m : List ℕ) → rowsFit l lines bytes ≡ true → l ≤ lowestFree lines l → i ≡ victim lines l hand → i < l
-      → next ≡ after l i → m ≡ writtenBack lines bytes memory i → left i next lines bytes m ≡ placed l hand (rows lines bytes memory)
+  pub placed-victim : (i next : ℕ) (z : Shape) (m : List ℕ) → rowsFit (shape .l) lines bytes ≡ true → shape .l ≤ lowestFree lines (shape .l) → i ≡ victim lines (shape .l) (shape .hand) → i < shape .l
+      → next ≡ after (shape .l) i → z ≡ atHand shape next → m ≡ writtenBack lines bytes memory i → left i z lines bytes m ≡ placed shape (rows lines bytes memory)
   unfolding placeLine placeHand placeMemory both
-  placed-victim i next m f o e h a w =
-      let h' : victim lines l hand < l = omega arith in
-      rw (w, a, e) (sym (rw (f, le-ltb _ _ o, le-leb _ _ o, lt-ltb _ _ h') refl))
+  placed-victim i next z m f o e h a y w =
+      let h' : victim lines (shape .l) (shape .hand) < shape .l = omega arith in
+      rw (w, y, a, e) (sym (rw (f, le-ltb _ _ o, le-leb _ _ o, lt-ltb _ _ h') refl))
 
   -- memory changes only where a line is taken
-  pub placed-same : l ≤ placeLine l hand lines bytes → placeMemory l hand (rows lines bytes memory) ≡ memory
+  pub placed-same : shape .l ≤ placeLine shape lines bytes → placeMemory shape (rows lines bytes memory) ≡ memory
   unfolding placeMemory
   placed-same h = rw (le-ltb _ _ h)
 
   -- bringing in a block that no line has
   module _ (b : ℕ) where
-    pub fetched-none : (p next : ℕ) (m : List ℕ) → left p next lines bytes m ≡ placed l hand (rows lines bytes memory) → l ≤ p
-        → left l hand lines bytes m ≡ fetched l hand b (rows lines bytes memory)
+    pub fetched-none : (p : ℕ) (z : Shape) (m : List ℕ) → left p z lines bytes m ≡ placed shape (rows lines bytes memory) → shape .l ≤ p
+        → left (shape .l) shape lines bytes m ≡ fetched shape b (rows lines bytes memory)
     unfolding fetched
-    fetched-none p next m g h =
-        let o : l ≤ placeLine l hand lines bytes = omega (arith, line-is g) in
+    fetched-none p z m g h =
+        let o : shape .l ≤ placeLine shape lines bytes = omega (arith, line-is g) in
         rw (memory-is g ∙ placed-same o) (sym (rw (le-ltb _ _ o) refl))
 
-    pub fetched-is : (p next w at : ℕ) (bs m y : List ℕ) → left p next lines bytes m ≡ placed l hand (rows lines bytes memory) → p < l
+    pub fetched-is : (p : ℕ) (z : Shape) (w at : ℕ) (bs m y : List ℕ) → left p z lines bytes m ≡ placed shape (rows lines bytes memory) → p < shape .l
         → w ≡ word b false 0 → at ≡ blockPlace b → y ≡ blockOr0 m at → bs ≡ putW 64 bytes (blockPlace p) y
-        → left p next (set lines p w) bs m ≡ fetched l hand b (rows lines bytes memory)
+        → left p z (set lines p w) bs m ≡ fetched shape b (rows lines bytes memory)
     unfolding fetched
-    fetched-is p next w at bs m y g h ew ea ey eb =
-        let o : placeLine l hand lines bytes < l = omega (arith, line-is g) in
-        rw (eb, ey, ea, ew, line-is g, hand-is g, memory-is g) (sym (rw (lt-ltb _ _ o) refl))
+    fetched-is p z w at bs m y g h ew ea ey eb =
+        let o : placeLine shape lines bytes < shape .l = omega (arith, line-is g) in
+        rw (eb, ey, ea, ew, line-is g, shape-is g, memory-is g) (sym (rw (lt-ltb _ _ o) refl))
 
-    pub bringIn-found : (i : ℕ) → i ≡ lineOf lines l b → i < l → left i hand lines bytes memory ≡ bringIn l hand b (rows lines bytes memory)
+    pub bringIn-found : (i : ℕ) → i ≡ lineOf lines (shape .l) b → i < shape .l → left i shape lines bytes memory ≡ bringIn shape b (rows lines bytes memory)
     unfolding bringIn
     bringIn-found i e h =
-        let o : lineOf lines l b < l = omega arith in
+        let o : lineOf lines (shape .l) b < shape .l = omega arith in
         rw e (sym (rw (lt-ltb _ _ o) refl))
 
-    pub bringIn-fetched : l ≤ lineOf lines l b → bringIn l hand b (rows lines bytes memory) ≡ fetched l hand b (rows lines bytes memory)
+    pub bringIn-fetched : shape .l ≤ lineOf lines (shape .l) b → bringIn shape b (rows lines bytes memory) ≡ fetched shape b (rows lines bytes memory)
     unfolding bringIn fetched
     bringIn-fetched h = rw (le-ltb _ _ h)
 
 -- where there was no line to take, nothing changed
-pub fetched-same : (l hand b : ℕ) (r : Rows) → l ≤ fetched l hand b r .line → fetched l hand b r .rows ≡ r
+pub fetched-same : (shape : Shape) (b : ℕ) (r : Rows) → shape .l ≤ fetched shape b r .line → fetched shape b r .rows ≡ r
 unfolding fetched
-fetched-same l hand b r h = same (ltb (placeLine l hand (r .lines) (r .bytes)) l) refl
+fetched-same shape b r h = same (ltb (placeLine shape (r .lines) (r .bytes)) (shape .l)) refl
   where
-    same : (f : Bool) → ltb (placeLine l hand (r .lines) (r .bytes)) l ≡ f → fetched l hand b r .rows ≡ r
+    same : (f : Bool) → ltb (placeLine shape (r .lines) (r .bytes)) (shape .l) ≡ f → fetched shape b r .rows ≡ r
     same true e =
-        let p : placeLine l hand (r .lines) (r .bytes) < l = ltb-true _ _ e in
-        let q : l ≤ placeLine l hand (r .lines) (r .bytes) = rw e at h in
+        let p : placeLine shape (r .lines) (r .bytes) < shape .l = ltb-true _ _ e in
+        let q : shape .l ≤ placeLine shape (r .lines) (r .bytes) = rw e at h in
         absurd (omega arith)
     same false e = rw e refl
 
-pub bringIn-same : (l hand b : ℕ) (lines bytes memory : List ℕ) → l ≤ bringIn l hand b (rows lines bytes memory) .line
-    → bringIn l hand b (rows lines bytes memory) .rows ≡ rows lines bytes memory
+pub bringIn-same : (shape : Shape) (b : ℕ) (lines bytes memory : List ℕ) → shape .l ≤ bringIn shape b (rows lines bytes memory) .line
+    → bringIn shape b (rows lines bytes memory) .rows ≡ rows lines bytes memory
 unfolding bringIn fetched
-bringIn-same l hand b lines bytes memory h = same (ltb (lineOf lines l b) l) refl
+bringIn-same shape b lines bytes memory h = same (ltb (lineOf lines (shape .l) b) (shape .l)) refl
   where
-    same : (f : Bool) → ltb (lineOf lines l b) l ≡ f → bringIn l hand b (rows lines bytes memory) .rows ≡ rows lines bytes memory
+    same : (f : Bool) → ltb (lineOf lines (shape .l) b) (shape .l) ≡ f → bringIn shape b (rows lines bytes memory) .rows ≡ rows lines bytes memory
     same true e = rw e refl
-    same false e = rw e (fetched-same l hand b (rows lines bytes memory) (rw e at h))
+    same false e = rw e (fetched-same shape b (rows lines bytes memory) (rw e at h))
 
 -- the first i of l lines of the rows r are drained
 pub record Draining (l i : ℕ) (r : Rows) (lines memory : List ℕ) : Type 0 where
@@ -213,11 +215,11 @@ draining-all l i r ls m d h =
     by-rows : {lines bytes memory : List ℕ} (a : Rows) → lines ≡ a .lines → bytes ≡ a .bytes → memory ≡ a .memory → rows lines bytes memory ≡ a
     by-rows a p q s = rw (p, q, s) refl
 
-module _ (l : ℕ) (lines bytes memory : List ℕ) where
-  pub drainedRows-fit : rowsFit l lines bytes ≡ true → drainedRows l (rows lines bytes memory) ≡ drained l (rows lines bytes memory)
+module _ (shape : Shape) (lines bytes memory : List ℕ) where
+  pub drainedRows-fit : rowsFit (shape .l) lines bytes ≡ true → drainedRows shape (rows lines bytes memory) ≡ drained (shape .l) (rows lines bytes memory)
   unfolding drainedRows
   drainedRows-fit e = rw e
 
-  pub drainedRows-misfit : rowsFit l lines bytes ≡ false → rows lines bytes memory ≡ drainedRows l (rows lines bytes memory)
+  pub drainedRows-misfit : rowsFit (shape .l) lines bytes ≡ false → rows lines bytes memory ≡ drainedRows shape (rows lines bytes memory)
   unfolding drainedRows
   drainedRows-misfit e = rw e refl

@@ -4,6 +4,8 @@ use mathlib.Core.Bool.{false}
 use Prim.Native.Nat.{ℕ}
 use lib.Dec.{ltb}
 use Rattle.laws.specs.Choice.{pick}
+use Rattle.geometry.specs.declared.Shape.{Shape}
+use Rattle.geometry.specs.Shape.{atHand}
 use Rattle.geometry.specs.TagMemory.{blockPlace}
 use Rattle.block.specs.Block.{blockOr0}
 use Rattle.rules.specs.State.{Rows}
@@ -14,23 +16,23 @@ use Rattle.lines.specs.declared.Spot.{Spot}
 abbrev pub rows : List ℕ → List ℕ → List ℕ → Rows
 rows lines bytes memory = record { lines = lines; bytes = bytes; memory = memory }
 
--- "Placing a block": the line that is taken, the hand, and the rows, of which only memory can have changed
-abbrev pub placed : ℕ → ℕ → Rows → Brought
-placed l hand r =
-    record { line = placeLine l hand (r .lines) (r .bytes); hand = placeHand l hand (r .lines) (r .bytes); rows = withMemory r (placeMemory l hand r) }
+-- "Placing a block": the line that is taken, the shape with its hand, and the rows, of which only memory can have changed
+abbrev pub placed : Shape → Rows → Brought
+placed shape r =
+    record { line = placeLine shape (r .lines) (r .bytes); shape = atHand shape (placeHand shape (r .lines) (r .bytes)); rows = withMemory r (placeMemory shape r) }
 
 -- "else place it and copy 64 bytes from memory, clean": bringing in a block that no line has. The line is L where there was none to take.
-unfoldable pub fetched : ℕ → ℕ → ℕ → Rows → Brought
-fetched l hand b r =
-    let p = placed l hand r in
-    pick (ltb (p .line) l)
-    (record { line = p .line; hand = p .hand; rows = filled (p .rows) (p .line) b false (blockOr0 (p .rows .memory) (blockPlace b)) })
-    (record { line = l; hand = hand; rows = r })
+unfoldable pub fetched : Shape → ℕ → Rows → Brought
+fetched shape b r =
+    let p = placed shape r in
+    pick (ltb (p .line) (shape .l))
+    (record { line = p .line; shape = p .shape; rows = filled (p .rows) (p .line) b false (blockOr0 (p .rows .memory) (blockPlace b)) })
+    (record { line = shape .l; shape = shape; rows = r })
 
 -- the rows drained, where they are of L lines; else as they came
-unfoldable pub drainedRows : ℕ → Rows → Rows
-drainedRows l r = pick (rowsFit l (r .lines) (r .bytes)) (drained l r) r
+unfoldable pub drainedRows : Shape → Rows → Rows
+drainedRows shape r = pick (rowsFit (shape .l) (r .lines) (r .bytes)) (drained (shape .l) r) r
 
--- what a function leaves: the line, the hand and the rows
+-- what a function leaves: the line, the shape and the rows
 abbrev pub brought : Spot → List ℕ → List ℕ → List ℕ → Brought
-brought r lines bytes memory = record { line = r .line; hand = r .hand; rows = rows lines bytes memory }
+brought r lines bytes memory = record { line = r .line; shape = r .shape; rows = rows lines bytes memory }

@@ -1,6 +1,7 @@
 // 01 "The cache" on rows that are lent: placing a block, bringing one in, draining.
 // No public function has a `requires`: where the rows are not of L lines, no line is taken and nothing changes.
 use geometry::Geometry;
+use geometry::Shape;
 ghost use mathlib.Core.Path.{_≡_};
 ghost use Prim.Native.Nat.{_+_, _*_, _≤_, _<_};
 ghost use lib.Dec.{eqb};
@@ -8,10 +9,10 @@ ghost use lib.ListN.{length};
 ghost use Rattle.rules.specs.Place.{rowsFit, writtenBack, bringIn, drained};
 ghost use Rattle.lines.specs.Lines.{rows, placed, fetched, drainedRows, brought};
 
-// A line, L for none, and the hand.
+// A line, L for none, and the shape with its hand.
 pub struct Spot {
     pub line: usize,
-    pub hand: usize,
+    pub shape: Shape,
 }
 
 // The line bytes are those of L lines.
@@ -47,43 +48,38 @@ fn write_back(i: usize, lines: &[u32], bytes: &[u8], memory: &mut [u8])
     block::copy_block(memory, at, bytes, Geometry::BLOCK_LEN * i);
 }
 
-// Placing a block: the line to take, written back if it was changed, and the hand.
-pub fn place(l: usize, hand: usize, lines: &[u32], bytes: &[u8], memory: &mut [u8]) -> Spot
-    ensures { λ r. ⌜ brought r (now (lines .entry)) (now (bytes .entry)) (now (memory .exit)) ≡ placed l hand (rows (now (lines .entry)) (now (bytes .entry)) (now (memory .entry))) ⌝ }
+// Placing a block: the line to take, written back if it was changed, and the shape with its hand.
+pub fn place(shape: Shape, lines: &[u32], bytes: &[u8], memory: &mut [u8]) -> Spot
+    ensures { λ r. ⌜ brought r (now (lines .entry)) (now (bytes .entry)) (now (memory .exit)) ≡ placed shape (rows (now (lines .entry)) (now (bytes .entry)) (now (memory .entry))) ⌝ }
 {
+    let l = shape.l;
     if !rows_fit(l, lines, bytes) {
-        return Spot { line: l, hand };
+        return Spot { line: l, shape };
     }
     let free = line::lowest_free(lines, l);
     if free < l {
-        return Spot { line: free, hand };
+        return Spot { line: free, shape };
     }
-    let i = line::victim(lines, l, hand);
+    let i = line::victim(lines, l, shape.hand);
     if l <= i {
-        return Spot { line: i, hand };
+        return Spot { line: i, shape };
     }
     write_back(i, lines, bytes, memory);
     Spot {
         line: i,
-        hand: line::after(l, i),
+        shape: shape.at_hand(line::after(l, i)),
     }
 }
 
 // Bringing in a block that no line has: it is placed, and its 64 bytes are copied from memory, clean.
-pub fn fetch(
-    l: usize,
-    hand: usize,
-    b: u32,
-    lines: &mut [u32],
-    bytes: &mut [u8],
-    memory: &mut [u8],
-) -> Spot
-    ensures { λ r. ⌜ brought r (now (lines .exit)) (now (bytes .exit)) (now (memory .exit)) ≡ fetched l hand b (rows (now (lines .entry)) (now (bytes .entry)) (now (memory .entry))) ⌝ }
+pub fn fetch(shape: Shape, b: u32, lines: &mut [u32], bytes: &mut [u8], memory: &mut [u8]) -> Spot
+    ensures { λ r. ⌜ brought r (now (lines .exit)) (now (bytes .exit)) (now (memory .exit)) ≡ fetched shape b (rows (now (lines .entry)) (now (bytes .entry)) (now (memory .entry))) ⌝ }
 {
-    let spot = place(l, hand, lines, bytes, memory);
+    let l = shape.l;
+    let spot = place(shape, lines, bytes, memory);
     let p = spot.line;
     if l <= p {
-        return Spot { line: l, hand };
+        return Spot { line: l, shape };
     }
     let block = block::read_block(memory, Geometry::block_place(b));
     lines[p] = line::word(b, false, 0);
@@ -93,20 +89,20 @@ pub fn fetch(
 
 // Bringing in block b: the line that has it, else it is fetched.
 pub fn bring_in(
-    l: usize,
-    hand: usize,
+    shape: Shape,
     b: u32,
     lines: &mut [u32],
     bytes: &mut [u8],
     memory: &mut [u8],
 ) -> Spot
-    ensures { λ r. ⌜ brought r (now (lines .exit)) (now (bytes .exit)) (now (memory .exit)) ≡ bringIn l hand b (rows (now (lines .entry)) (now (bytes .entry)) (now (memory .entry))) ⌝ }
+    ensures { λ r. ⌜ brought r (now (lines .exit)) (now (bytes .exit)) (now (memory .exit)) ≡ bringIn shape b (rows (now (lines .entry)) (now (bytes .entry)) (now (memory .entry))) ⌝ }
 {
+    let l = shape.l;
     let i = line::line_of(lines, l, b);
     if i < l {
-        return Spot { line: i, hand };
+        return Spot { line: i, shape };
     }
-    fetch(l, hand, b, lines, bytes, memory)
+    fetch(shape, b, lines, bytes, memory)
 }
 
 // Changed lines to memory, lowest line first, and marked clean, in rows that are of L lines.
@@ -123,9 +119,10 @@ fn drain_all(l: usize, lines: &mut [u32], bytes: &[u8], memory: &mut [u8])
 }
 
 // Changed lines to memory, lowest line first, and marked clean; the lines stay.
-pub fn drain(l: usize, lines: &mut [u32], bytes: &[u8], memory: &mut [u8])
-    ensures { λ _. ⌜ rows (now (lines .exit)) (now (bytes .entry)) (now (memory .exit)) ≡ drainedRows l (rows (now (lines .entry)) (now (bytes .entry)) (now (memory .entry))) ⌝ }
+pub fn drain(shape: Shape, lines: &mut [u32], bytes: &[u8], memory: &mut [u8])
+    ensures { λ _. ⌜ rows (now (lines .exit)) (now (bytes .entry)) (now (memory .exit)) ≡ drainedRows shape (rows (now (lines .entry)) (now (bytes .entry)) (now (memory .entry))) ⌝ }
 {
+    let l = shape.l;
     if !rows_fit(l, lines, bytes) {
         return;
     }

@@ -44,51 +44,51 @@ named-lt t (steps x) h = below-lt t x h
 named-lt t drains h = h
 named-lt t bad h = h
 
-module _ (s : State) (bytes memory : List ℕ) (w : whole s ≡ true) (len : lengthsRight (s .n) (s .l) bytes memory ≡ true) where
+module _ (s : State) (bytes memory : List ℕ) (w : whole s ≡ true) (len : lengthsRight (s .shape) bytes memory ≡ true) where
   abbrev lent : Rows
   lent = rows (s .lines) bytes memory
 
   -- the tracker that number x names
   abbrev own : ℕ → ℕ
-  own x = pick (ltb x (s .t)) x 0
+  own x = pick (ltb x (s .shape .t)) x 0
 
-  own-is : (x : ℕ) → x < s .t → own x ≡ x
-  own-is x q = rw (lt-ltb x (s .t) q)
+  own-is : (x : ℕ) → x < s .shape .t → own x ≡ x
+  own-is x q = rw (lt-ltb x (s .shape .t) q)
 
   -- a refusal leaves the tracker that it names
-  stays : (c x : ℕ) → refused c s bytes memory ≡ stepped s x (refuses c (trackerAt (s .trackers) x) (s .hand) lent)
+  stays : (c x : ℕ) → refused c s bytes memory ≡ stepped s x (refuses c (trackerAt (s .trackers) x) (s .shape) lent)
   stays c x = rw set-getD
 
-  drained-fit : drainedRows (s .l) lent ≡ drained (s .l) lent
+  drained-fit : drainedRows (s .shape) lent ≡ drained (s .shape .l) lent
   unfolding drainedRows
   drained-fit = rw (rows-fit s bytes memory w len)
 
   -- a call refused, and its turn
-  refused-turn : (x c : ℕ) (o : Turned) → 0 < c → refused c s bytes memory ≡ stepped s x (unless c o (λ i. refuses i (trackerAt (s .trackers) x) (s .hand) lent))
-  refused-turn x c o h = stays c x ∙ rw (unless-no o (λ i. refuses i (trackerAt (s .trackers) x) (s .hand) lent) h) refl
+  refused-turn : (x c : ℕ) (o : Turned) → 0 < c → refused c s bytes memory ≡ stepped s x (unless c o (λ i. refuses i (trackerAt (s .trackers) x) (s .shape) lent))
+  refused-turn x c o h = stays c x ∙ rw (unless-no o (λ i. refuses i (trackerAt (s .trackers) x) (s .shape) lent) h) refl
 
-  step-turn : (x : ℕ) → step s bytes memory x ≡ stepped s (own x) (stepTurn (s .n) (s .t) (s .l) (s .hand) x (s .trackers) (trackerAt (s .trackers) (own x)) lent)
+  step-turn : (x : ℕ) → step s bytes memory x ≡ stepped s (own x) (stepTurn (s .shape) x (s .trackers) (trackerAt (s .trackers) (own x)) lent)
   unfolding stepTurn
   step-turn x = ⊎-elim
       (λ e. let h = step-free s bytes memory w len x e in
-      step-is s bytes memory w len x (h .0) (h .1) ∙ rw (own-is x (h .0), unless-0 (turnOf (s .n) (s .l) (s .hand) x (trackerAt (s .trackers) x) lent) (λ i. refuses i (trackerAt (s .trackers) x) (s .hand) lent) e) refl)
-      (λ h. step-refused s bytes memory w len x h ∙ refused-turn (own x) _ _ h) (refused-or-not (refusal (stepTests (s .t) x (s .trackers))))
+      step-is s bytes memory w len x (h .0) (h .1) ∙ rw (own-is x (h .0), unless-0 (turnOf (s .shape) x (trackerAt (s .trackers) x) lent) (λ i. refuses i (trackerAt (s .trackers) x) (s .shape) lent) e) refl)
+      (λ h. step-refused s bytes memory w len x h ∙ refused-turn (own x) _ _ h) (refused-or-not (refusal (stepTests (s .shape) x (s .trackers))))
 
-  issue-turn : (x : ℕ) (access : Access) → issue s bytes memory x access ≡ stepped s (own x) (issueTurn (s .n) (s .t) (s .hand) x access (s .trackers) (trackerAt (s .trackers) (own x)) lent)
+  issue-turn : (x : ℕ) (access : Access) → issue s bytes memory x access ≡ stepped s (own x) (issueTurn (s .shape) x access (s .trackers) (trackerAt (s .trackers) (own x)) lent)
   unfolding issueTurn
   issue-turn x access = ⊎-elim
       (λ e. let h = issue-free s bytes memory w len x access e in
       issue-accepted s bytes memory w len x access e
-      ∙ rw (own-is x (h .0), unless-0 (accepts (s .hand) (issued access) lent) (λ i. refuses i (trackerAt (s .trackers) x) (s .hand) lent) e) refl)
-      (λ h. issue-refused s bytes memory w len x access h ∙ refused-turn (own x) _ _ h) (refused-or-not (refusal (issueTests (s .n) (s .t) x access (s .trackers))))
+      ∙ rw (own-is x (h .0), unless-0 (accepts (s .shape) (issued access) lent) (λ i. refuses i (trackerAt (s .trackers) x) (s .shape) lent) e) refl)
+      (λ h. issue-refused s bytes memory w len x access h ∙ refused-turn (own x) _ _ h) (refused-or-not (refusal (issueTests (s .shape) x access (s .trackers))))
 
-  drain-turn : drain s bytes memory ≡ stepped s 0 (drainTurn (s .t) (s .l) (s .hand) (s .trackers) (trackerAt (s .trackers) 0) lent)
+  drain-turn : drain s bytes memory ≡ stepped s 0 (drainTurn (s .shape) (s .trackers) (trackerAt (s .trackers) 0) lent)
   unfolding drainTurn allIdle refusal unless
-  drain-turn = ⊎-elim (λ e. drain-is s bytes memory w len e ∙ rw (e, drained-fit, drains-all s bytes memory w len e (s .l) (omega arith) .bytes-is, set-getD) refl) (λ e. drain-busy s bytes memory w len e ∙ stays 7 0 ∙ rw e refl) (true-or-false (allIdle s))
+  drain-turn = ⊎-elim (λ e. drain-is s bytes memory w len e ∙ rw (e, drained-fit, drains-all s bytes memory w len e (s .shape .l) (omega arith) .bytes-is, set-getD) refl) (λ e. drain-busy s bytes memory w len e ∙ stays 7 0 ∙ rw e refl) (true-or-false (allIdle s))
 
   -- a line is its turn on the tracker that it names
   pub follows-turn : (a : Asks)
-      → follows (record { state = s; bytes = bytes; memory = memory }) a ≡ stepped s (named (s .t) a) (lineTurn (s .n) (s .t) (s .l) (s .hand) a (s .trackers) (trackerAt (s .trackers) (named (s .t) a)) lent)
+      → follows (record { state = s; bytes = bytes; memory = memory }) a ≡ stepped s (named (s .shape .t) a) (lineTurn (s .shape) a (s .trackers) (trackerAt (s .trackers) (named (s .shape .t) a)) lent)
   unfolding does lineTurn named
   follows-turn (news n l t) = stays 12 0
   follows-turn (reads x g b) = issue-turn x (readOf b g)
@@ -98,7 +98,7 @@ module _ (s : State) (bytes memory : List ℕ) (w : whole s ≡ true) (len : len
   follows-turn bad = stays 12 0
 
   -- and leaves a whole state
-  pub follows-kept : (a : Asks) → Sound (s .n) (s .t) (s .l) (follows (record { state = s; bytes = bytes; memory = memory }) a)
+  pub follows-kept : (a : Asks) → Sound (s .shape) (follows (record { state = s; bytes = bytes; memory = memory }) a)
   unfolding does
   follows-kept (news n l t) = refused-sound s bytes memory w len 12
   follows-kept (reads x g b) = issue-kept s bytes memory w len x (readOf b g)

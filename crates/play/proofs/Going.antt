@@ -10,6 +10,7 @@ use Rattle.geometry.specs.TagMemory.{mostTrackers}
 use Rattle.laws.specs.Choice.{both}
 use Rattle.laws.specs.Bytes.{part, splice, fits}
 use Rattle.laws.proofs.Choice.{both-left, both-right}
+use Rattle.geometry.specs.declared.Shape.{Shape}
 use Rattle.tracker.specs.declared.Tracker.{Tracker}
 use Rattle.tracker.specs.Answer.{Said, says, no}
 use Rattle.script.specs.Script.{Asks, asksFor}
@@ -50,14 +51,14 @@ module _ (rule : Kept → Asks → Out) (input : List ℕ) where
 pub record Going (input : List ℕ) (begun p : Played) : Type 0 where
   pub rest : Rest follows input begun p
   pub is-whole : whole (p .kept .state) ≡ true
-  pub right : lengthsRight (p .kept .state .n) (p .kept .state .l) (p .kept .bytes) (p .kept .memory) ≡ true
+  pub right : lengthsRight (p .kept .state .shape) (p .kept .bytes) (p .kept .memory) ≡ true
 
 pub going-more : (input : List ℕ) {begun p : Played} → Going input begun p → goesOn input p ≡ true → Going input begun (lineDone follows input p)
 unfolding lineDone
 going-more input {begun} {p} g h =
     let a : Asks = asksFor (part input (p .taken) (lineEnd input (p .taken) - p .taken)) in
-    let k : Sound (p .kept .state .n) (p .kept .state .t) (p .kept .state .l) (follows (p .kept) a) = follows-kept (p .kept .state) (p .kept .bytes) (p .kept .memory) (g .is-whole) (g .right) a in
-    record { rest = rest-more follows input (g .rest) h; is-whole = k .is-whole; right = rw (k .n-is, k .l-is) (k .right) }
+    let k : Sound (p .kept .state .shape) (follows (p .kept) a) = follows-kept (p .kept .state) (p .kept .bytes) (p .kept .memory) (g .is-whole) (g .right) a in
+    record { rest = rest-more follows input (g .rest) h; is-whole = k .is-whole; right = k .right }
 
 pub goesOn-fits : (input : List ℕ) (p : Played) → goesOn input p ≡ true → fits (p .output) (p .written) most ≡ true
 unfolding goesOn
@@ -68,10 +69,10 @@ unfolding lineIn
 line-in output written k said h = rw h
 
 -- a chunk under way, by its parts
-abbrev pub under : (n t l hand : ℕ) → List ℕ → List Tracker → (bytes memory : List ℕ) → (number taken : ℕ) → List ℕ → (written : ℕ) → Played
-under n t l hand lines trackers bytes memory number taken output written =
+abbrev pub under : Shape → List ℕ → List Tracker → (bytes memory : List ℕ) → (number taken : ℕ) → List ℕ → (written : ℕ) → Played
+under shape lines trackers bytes memory number taken output written =
     record {
-      kept = record { state = record { n = n; t = t; l = l; hand = hand; lines = lines; trackers = trackers }; bytes = bytes; memory = memory };
+      kept = record { state = record { shape = shape; lines = lines; trackers = trackers }; bytes = bytes; memory = memory };
       number = number;
       taken = taken;
       output = output;
@@ -84,7 +85,7 @@ told : (s : State) (number taken : ℕ) (output : List ℕ) (written e x : ℕ) 
     → turned q lines bytes' memory' ≡ want
     → output' ≡ splice output written (lineIn output written (number + 1) (says (q .answer)))
     → written' ≡ written + length (lineIn output written (number + 1) (says (q .answer)))
-    → under (s .n) (s .t) (s .l) (q .hand) lines (set (s .trackers) x (q .tracker)) bytes' memory' (number + 1) (e + 1) output' written'
+    → under (q .shape) lines (set (s .trackers) x (q .tracker)) bytes' memory' (number + 1) (e + 1) output' written'
     ≡ after (record { kept = record { state = s; bytes = bytes; memory = memory }; number = number; taken = taken; output = output; written = written }) e (stepped s x want)
 told s number taken output written e x bytes memory q f st o v =
     rw (o, v, line-in output written (number + 1) (says (q .answer)) f)
@@ -96,26 +97,26 @@ unfolding lineDone
 done-at rule input p e a ee ae = rw (ae, ee) refl
 
 -- one more line, as the code does it
-pub going-line : (input : List ℕ) {begun : Played} (n t l hand : ℕ) (lines : List ℕ) (trackers : List Tracker) (bytes memory : List ℕ) (number taken : ℕ) (output : List ℕ) (written : ℕ)
+pub going-line : (input : List ℕ) {begun : Played} (shape : Shape) (lines : List ℕ) (trackers : List Tracker) (bytes memory : List ℕ) (number taken : ℕ) (output : List ℕ) (written : ℕ)
     (e x : ℕ) (a : Asks) (q : left.Turned) {lines' bytes' memory' output' : List ℕ} {written' : ℕ}
-    → Going input begun (under n t l hand lines trackers bytes memory number taken output written)
-    → goesOn input (under n t l hand lines trackers bytes memory number taken output written) ≡ true
+    → Going input begun (under shape lines trackers bytes memory number taken output written)
+    → goesOn input (under shape lines trackers bytes memory number taken output written) ≡ true
     → e ≡ lineEnd input taken
     → a ≡ asksFor (part input taken (e - taken))
-    → x ≡ named t a
-    → turned q lines' bytes' memory' ≡ lineTurn n t l hand a trackers (trackerAt trackers x) (rows lines bytes memory)
+    → x ≡ named (shape .t) a
+    → turned q lines' bytes' memory' ≡ lineTurn shape a trackers (trackerAt trackers x) (rows lines bytes memory)
     → output' ≡ splice output written (lineIn output written (number + 1) (says (q .answer)))
     → written' ≡ written + length (lineIn output written (number + 1) (says (q .answer)))
-    → Going input begun (under n t l (q .hand) lines' (set trackers x (q .tracker)) bytes' memory' (number + 1) (e + 1) output' written')
-going-line input {begun} n t l hand lines trackers bytes memory number taken output written e x a q g h ee ae xe st o v =
-    let s : State = record { n = n; t = t; l = l; hand = hand; lines = lines; trackers = trackers } in
-    let p : Played = under n t l hand lines trackers bytes memory number taken output written in
+    → Going input begun (under (q .shape) lines' (set trackers x (q .tracker)) bytes' memory' (number + 1) (e + 1) output' written')
+going-line input {begun} shape lines trackers bytes memory number taken output written e x a q g h ee ae xe st o v =
+    let s : State = record { shape = shape; lines = lines; trackers = trackers } in
+    let p : Played = under shape lines trackers bytes memory number taken output written in
     let told-is = told s number taken output written e x bytes memory q (goesOn-fits input p h) st o v in
-    let done : follows (record { state = s; bytes = bytes; memory = memory }) a ≡ stepped s (named t a) (lineTurn n t l hand a trackers (trackerAt trackers (named t a)) (rows lines bytes memory)) =
+    let done : follows (record { state = s; bytes = bytes; memory = memory }) a ≡ stepped s (named (shape .t) a) (lineTurn shape a trackers (trackerAt trackers (named (shape .t) a)) (rows lines bytes memory)) =
     follows-turn s bytes memory (g .is-whole) (g .right) a in
     subst (λ (z : Played). Going input begun z)
     (sym (told-is
-    ∙ ap (λ (y : ℕ). after p e (stepped s y (lineTurn n t l hand a trackers (trackerAt trackers y) (rows lines bytes memory)))) xe
+    ∙ ap (λ (y : ℕ). after p e (stepped s y (lineTurn shape a trackers (trackerAt trackers y) (rows lines bytes memory)))) xe
     ∙ ap (λ (d : Out). after p e d) (sym done)
     ∙ done-at follows input p e a ee ae))
     (going-more input g h)
@@ -135,11 +136,11 @@ refusing-line input {begun} k number taken output written e r h ee o v =
     (rest-more refuses input r h)
 
 -- before the first line
-pub going-start : (input : List ℕ) (n t l hand : ℕ) (lines : List ℕ) (trackers : List Tracker) (bytes memory : List ℕ) (number : ℕ) (output : List ℕ) {ls : List ℕ} {ts : List Tracker}
-    → lines ≡ ls → trackers ≡ ts → whole (record { n = n; t = t; l = l; hand = hand; lines = ls; trackers = ts }) ≡ true → lengthsRight n l bytes memory ≡ true
-    → Going input (under n t l hand lines trackers bytes memory number 0 output 0) (under n t l hand lines trackers bytes memory number 0 output 0)
-going-start input n t l hand lines trackers bytes memory number output p q w r =
-    record { rest = rest-start follows input (under n t l hand lines trackers bytes memory number 0 output 0) refl; is-whole = rw (p, q) w; right = r }
+pub going-start : (input : List ℕ) (shape : Shape) (lines : List ℕ) (trackers : List Tracker) (bytes memory : List ℕ) (number : ℕ) (output : List ℕ) {ls : List ℕ} {ts : List Tracker}
+    → lines ≡ ls → trackers ≡ ts → whole (record { shape = shape; lines = ls; trackers = ts }) ≡ true → lengthsRight shape bytes memory ≡ true
+    → Going input (under shape lines trackers bytes memory number 0 output 0) (under shape lines trackers bytes memory number 0 output 0)
+going-start input shape lines trackers bytes memory number output p q w r =
+    record { rest = rest-start follows input (under shape lines trackers bytes memory number 0 output 0) refl; is-whole = rw (p, q) w; right = r }
 
 -- what the code tests is whether it goes on
 pub on-is : (input : List ℕ) (p : Played) (e : ℕ) → e ≡ lineEnd input (p .taken)
@@ -148,18 +149,18 @@ unfolding goesOn
 on-is input p e q = rw q refl
 
 -- after the last line
-pub going-stops : (input : List ℕ) (n t l hand : ℕ) (lines : List ℕ) (trackers : List Tracker) (bytes memory : List ℕ) (number : ℕ) (output : List ℕ) {p : Played} {ls : List ℕ} {ts : List Tracker}
-    → lines ≡ ls → trackers ≡ ts → Going input (under n t l hand lines trackers bytes memory number 0 output 0) p → goesOn input p ≡ false
-    → p ≡ played follows (length input) input (under n t l hand ls ts bytes memory number 0 output 0)
-going-stops input n t l hand lines trackers bytes memory number output {p} {ls} a b g h =
-    rest-stops follows input (g .rest) h ∙ ap (λ (x : List ℕ). played follows (length input) input (under n t l hand x trackers bytes memory number 0 output 0)) a
-    ∙ ap (λ (x : List Tracker). played follows (length input) input (under n t l hand ls x bytes memory number 0 output 0)) b
+pub going-stops : (input : List ℕ) (shape : Shape) (lines : List ℕ) (trackers : List Tracker) (bytes memory : List ℕ) (number : ℕ) (output : List ℕ) {p : Played} {ls : List ℕ} {ts : List Tracker}
+    → lines ≡ ls → trackers ≡ ts → Going input (under shape lines trackers bytes memory number 0 output 0) p → goesOn input p ≡ false
+    → p ≡ played follows (length input) input (under shape ls ts bytes memory number 0 output 0)
+going-stops input shape lines trackers bytes memory number output {p} {ls} a b g h =
+    rest-stops follows input (g .rest) h ∙ ap (λ (x : List ℕ). played follows (length input) input (under shape x trackers bytes memory number 0 output 0)) a
+    ∙ ap (λ (x : List Tracker). played follows (length input) input (under shape ls x bytes memory number 0 output 0)) b
 
 -- the tracker that a line names is in the table
-pub going-named : (input : List ℕ) {begun p : Played} → Going input begun p → (a : Asks) → named (p .kept .state .t) a < mostTrackers
+pub going-named : (input : List ℕ) {begun p : Played} → Going input begun p → (a : Asks) → named (p .kept .state .shape .t) a < mostTrackers
 going-named input {begun} {p} g a =
     let f = whole-facts (p .kept .state) (g .is-whole) .limits-ok in
-    let lo = t-least (p .kept .state .n) (p .kept .state .t) (p .kept .state .l) f in
-    let hi = t-most (p .kept .state .n) (p .kept .state .t) (p .kept .state .l) f in
-    let b = named-lt (p .kept .state .t) a (omega arith) in
+    let lo = t-least (p .kept .state .shape) f in
+    let hi = t-most (p .kept .state .shape) f in
+    let b = named-lt (p .kept .state .shape .t) a (omega arith) in
     omega arith

@@ -82,7 +82,7 @@ module _ (rule : Kept → Asks → Out) where
       by more (inr g) = rw (played-stops rule input p (suc f) g, asked-stops f input p g) (becomes-itself p)
 
 -- a chunk that is played: its output is the text of what its lines say
-pub plays-becomes : (k : Kept) (number : ℕ) (input output : List ℕ) → both (whole (k .state)) (lengthsRight (k .state .n) (k .state .l) (k .bytes) (k .memory)) ≡ true
+pub plays-becomes : (k : Kept) (number : ℕ) (input output : List ℕ) → both (whole (k .state)) (lengthsRight (k .state .shape) (k .bytes) (k .memory)) ≡ true
     → Becomes follows (starts k number output) (plays k number input output) (asked follows (length input) input (starts k number output))
 plays-becomes k number input output h = rw (plays-ready k number input output h) (played-becomes follows (length input) input (starts k number output) (omega arith))
 

@@ -2,7 +2,7 @@
 use mathlib.Core.Path.{_≡_, refl, sym, _∙_}
 use mathlib.Core.Bool.{Bool, true, false}
 use mathlib.Core.List.{List}
-use Prim.Native.Nat.{ℕ, _+_, _-_, _*_, _≤_, _<_}
+use Prim.Native.Nat.{ℕ, _+_, _-_, _≤_, _<_}
 use native.Mathlib.Omega.{arith}
 use lib.Dec.{eqb, ltb}
 use lib.ListN.{length, getD}
@@ -14,6 +14,7 @@ use Rattle.laws.specs.Bytes.{fits}
 use Rattle.laws.specs.Scan.{all, first}
 use Rattle.laws.proofs.Choice.{both-left, both-right, both-false-left, both-false-right}
 use Rattle.laws.proofs.Scan.{first-zero, first-hit, first-miss}
+use Rattle.geometry.specs.declared.Shape.{Shape}
 use Rattle.tracker.specs.declared.Access.{Access}
 use Rattle.tracker.specs.declared.Tracker.{Tracker}
 use Rattle.tracker.specs.Tracker.{isIdle, readOf, writeOf, issued}
@@ -21,7 +22,7 @@ use Rattle.tracker.specs.Answer.{no}
 use Rattle.script.specs.declared.Command.{Command}
 use Rattle.script.specs.declared.Command.the-variants.{New, Read, Write, Step, Drain, Bad}
 use Rattle.script.specs.Script.{news, asks}
-use Rattle.geometry.specs.TagMemory.{inLimits, memoryLength}
+use Rattle.geometry.specs.TagMemory.{inLimits}
 use Rattle.rules.specs.State.{State, Rows, trackerAt, lengthsRight, zeroState}
 use Rattle.rules.specs.Whole.{limits, whole}
 use Rattle.rules.specs.Step.{refuses, turnOf}
@@ -32,56 +33,56 @@ use Rattle.play.specs.Turn.{named, accepts, issueTurn, stepTurn, drainTu
 use Rattle.play.specs.Play.{replayLeaves, begins, follows, lineEnd, starts, played, plays}
 
 -- refused with c, or not
-module _ (n t hand x : ℕ) (a : Access) (us : List Tracker) (u : Tracker) (r : Rows) (c : ℕ) (e : c ≡ refusal (issueTests n t x a us)) where
-  pub issue-no : 0 < c → issueTurn n t hand x a us u r ≡ refuses c u hand r
+module _ (shape : Shape) (x : ℕ) (a : Access) (us : List Tracker) (u : Tracker) (r : Rows) (c : ℕ) (e : c ≡ refusal (issueTests shape x a us)) where
+  pub issue-no : 0 < c → issueTurn shape x a us u r ≡ refuses c u shape r
   unfolding issueTurn
   issue-no h = rw (← e) (unless-no _ _ h)
 
-  pub issue-ok : c ≡ 0 → issueTurn n t hand x a us u r ≡ accepts hand (issued a) r
+  pub issue-ok : c ≡ 0 → issueTurn shape x a us u r ≡ accepts shape (issued a) r
   unfolding issueTurn
   issue-ok z = unless-0 _ _ (sym e ∙ z)
 
-module _ (n t l hand x : ℕ) (us : List Tracker) (u : Tracker) (r : Rows) (c : ℕ) (e : c ≡ refusal (stepTests t x us)) where
-  pub step-no : 0 < c → stepTurn n t l hand x us u r ≡ refuses c u hand r
+module _ (shape : Shape) (x : ℕ) (us : List Tracker) (u : Tracker) (r : Rows) (c : ℕ) (e : c ≡ refusal (stepTests shape x us)) where
+  pub step-no : 0 < c → stepTurn shape x us u r ≡ refuses c u shape r
   unfolding stepTurn
   step-no h = rw (← e) (unless-no _ _ h)
 
-  pub step-ok : c ≡ 0 → stepTurn n t l hand x us u r ≡ turnOf n l hand x u r
+  pub step-ok : c ≡ 0 → stepTurn shape x us u r ≡ turnOf shape x u r
   unfolding stepTurn
   step-ok z = unless-0 _ _ (sym e ∙ z)
 
-module _ (t l hand : ℕ) (us : List Tracker) (u : Tracker) (r : Rows) (c : ℕ) (e : c ≡ refusal (drainTests (all (λ y. isIdle (trackerAt us y)) t))) where
-  pub drain-no : 0 < c → drainTurn t l hand us u r ≡ refuses c u hand r
+module _ (shape : Shape) (us : List Tracker) (u : Tracker) (r : Rows) (c : ℕ) (e : c ≡ refusal (drainTests (all (λ y. isIdle (trackerAt us y)) (shape .t)))) where
+  pub drain-no : 0 < c → drainTurn shape us u r ≡ refuses c u shape r
   unfolding drainTurn
   drain-no h = rw (← e) (unless-no _ _ h)
 
-  pub drain-ok : c ≡ 0 → drainTurn t l hand us u r ≡ accepts hand u (drainedRows l r)
+  pub drain-ok : c ≡ 0 → drainTurn shape us u r ≡ accepts shape u (drainedRows shape r)
   unfolding drainTurn
   drain-ok z = unless-0 _ _ (sym e ∙ z)
 
 -- a line by its command
-module _ (n t l hand : ℕ) {c : Command} (us : List Tracker) (u : Tracker) (r : Rows) where
-  pub line-new : {a b d : ℕ} → c ≡ New a b d → lineTurn n t l hand (asks c) us u r ≡ refuses 12 u hand r
+module _ (shape : Shape) {c : Command} (us : List Tracker) (u : Tracker) (r : Rows) where
+  pub line-new : {a b d : ℕ} → c ≡ New a b d → lineTurn shape (asks c) us u r ≡ refuses 12 u shape r
   unfolding lineTurn
   line-new e = rw e
 
-  pub line-read : {x g : ℕ} {bottom : Bool} {a : Access} → c ≡ Read x g bottom → a ≡ readOf bottom g → lineTurn n t l hand (asks c) us u r ≡ issueTurn n t hand x a us u r
+  pub line-read : {x g : ℕ} {bottom : Bool} {a : Access} → c ≡ Read x g bottom → a ≡ readOf bottom g → lineTurn shape (asks c) us u r ≡ issueTurn shape x a us u r
   unfolding lineTurn
   line-read e q = rw (e, q) refl
 
-  pub line-write : {x g v : ℕ} {bottom : Bool} {a : Access} → c ≡ Write x g v bottom → a ≡ writeOf bottom g v → lineTurn n t l hand (asks c) us u r ≡ issueTurn n t hand x a us u r
+  pub line-write : {x g v : ℕ} {bottom : Bool} {a : Access} → c ≡ Write x g v bottom → a ≡ writeOf bottom g v → lineTurn shape (asks c) us u r ≡ issueTurn shape x a us u r
   unfolding lineTurn
   line-write e q = rw (e, q) refl
 
-  pub line-step : {x : ℕ} → c ≡ Step x → lineTurn n t l hand (asks c) us u r ≡ stepTurn n t l hand x us u r
+  pub line-step : {x : ℕ} → c ≡ Step x → lineTurn shape (asks c) us u r ≡ stepTurn shape x us u r
   unfolding lineTurn
   line-step e = rw e
 
-  pub line-drain : c ≡ Drain → lineTurn n t l hand (asks c) us u r ≡ drainTurn t l hand us u r
+  pub line-drain : c ≡ Drain → lineTurn shape (asks c) us u r ≡ drainTurn shape us u r
   unfolding lineTurn
   line-drain e = rw e
 
-  pub line-bad : c ≡ Bad → lineTurn n t l hand (asks c) us u r ≡ refuses 12 u hand r
+  pub line-bad : c ≡ Bad → lineTurn shape (asks c) us u r ≡ refuses 12 u shape r
   unfolding lineTurn
   line-bad e = rw e
 
@@ -166,27 +167,21 @@ module _ (e : ℕ) (input output : List ℕ) (written number : ℕ) (h : both (l
 
 -- the whole chunk
 module _ (k : Kept) (number : ℕ) (input output : List ℕ) where
-  pub plays-not : both (whole (k .state)) (lengthsRight (k .state .n) (k .state .l) (k .bytes) (k .memory)) ≡ false → plays k number input output ≡ starts k number output
+  pub plays-not : both (whole (k .state)) (lengthsRight (k .state .shape) (k .bytes) (k .memory)) ≡ false → plays k number input output ≡ starts k number output
   unfolding plays
   plays-not e = rw e
 
-  pub plays-ready : both (whole (k .state)) (lengthsRight (k .state .n) (k .state .l) (k .bytes) (k .memory)) ≡ true
+  pub plays-ready : both (whole (k .state)) (lengthsRight (k .state .shape) (k .bytes) (k .memory)) ≡ true
       → plays k number input output ≡ played follows (length input) input (starts k number output)
   unfolding plays
   plays-ready e = rw e
 
 -- whether a chunk can be played
 module _ (s : State) (bytes memory : List ℕ) where
-  pub ready-bytes : eqb (length bytes) (64 * s .l) ≡ false → both (whole s) (lengthsRight (s .n) (s .l) bytes memory) ≡ false
-  unfolding lengthsRight
-  ready-bytes e = both-false-right _ _ (both-false-left _ _ e)
+  pub ready-is : whole s ≡ true → both (whole s) (lengthsRight (s .shape) bytes memory) ≡ lengthsRight (s .shape) bytes memory
+  unfolding both
+  ready-is w = rw w
 
-  pub ready-memory : whole s ≡ true → eqb (length bytes) (64 * s .l) ≡ true
-      → both (whole s) (lengthsRight (s .n) (s .l) bytes memory) ≡ eqb (length memory) (memoryLength (s .n))
-  unfolding lengthsRight both
-  ready-memory w e = rw (w, e)
-
--- line 1
 module _ (bytes memory : List ℕ) where
   pub refused-of : (c : ℕ) {o : Out} → o ≡ fresh 0 0 0 bytes memory → (record { said = no c; state = o .state; bytes = o .bytes; memory = o .memory }) ≡ refused c zeroState bytes memory
   unfolding fresh limits inLimits both refusal unless

@@ -77,7 +77,7 @@ starts k number output = record { kept = k; number = number; taken = 0; output =
 -- a chunk of a script whose line 1 was accepted; nothing is done where the state is not whole or a lent length is wrong
 unfoldable pub plays : Kept → ℕ → List ℕ → List ℕ → Played
 plays k number input output =
-    pick (both (whole (k .state)) (lengthsRight (k .state .n) (k .state .l) (k .bytes) (k .memory)))
+    pick (both (whole (k .state)) (lengthsRight (k .state .shape) (k .bytes) (k .memory)))
     (played follows (length input) input (starts k number output))
     (starts k number output)
 

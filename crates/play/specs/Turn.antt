@@ -5,6 +5,7 @@ use lib.Dec.{ltb}
 use Rattle.laws.specs.Choice.{pick}
 use Rattle.laws.specs.Refusal.{refusal, unless}
 use Rattle.laws.specs.Scan.{all}
+use Rattle.geometry.specs.declared.Shape.{Shape}
 use Rattle.tracker.specs.declared.Access.{Access}
 use Rattle.tracker.specs.declared.Tracker.{Tracker}
 use Rattle.tracker.specs.Tracker.{isIdle, readOf, writeOf, issued}
@@ -25,26 +26,26 @@ named t drains = 0
 named t bad = 0
 
 -- a call that is accepted
-abbrev pub accepts : (hand : ℕ) → Tracker → Rows → Turned
-accepts hand u r = record { said = ok; hand = hand; tracker = u; rows = r }
+abbrev pub accepts : Shape → Tracker → Rows → Turned
+accepts shape u r = record { said = ok; shape = shape; tracker = u; rows = r }
 
 -- an issue to tracker x, among the trackers us; u is the one that is left
-unfoldable pub issueTurn : (n t hand x : ℕ) → Access → (us : List Tracker) (u : Tracker) → Rows → Turned
-issueTurn n t hand x a us u r =
-    unless (refusal (issueTests n t x a us)) (accepts hand (issued a) r) (λ c. refuses c u hand r)
+unfoldable pub issueTurn : Shape → (x : ℕ) → Access → (us : List Tracker) (u : Tracker) → Rows → Turned
+issueTurn shape x a us u r =
+    unless (refusal (issueTests shape x a us)) (accepts shape (issued a) r) (λ c. refuses c u shape r)
 
 -- a step of tracker x, which is u
-unfoldable pub stepTurn : (n t l hand x : ℕ) → (us : List Tracker) (u : Tracker) → Rows → Turned
-stepTurn n t l hand x us u r = unless (refusal (stepTests t x us)) (turnOf n l hand x u r) (λ c. refuses c u hand r)
+unfoldable pub stepTurn : Shape → (x : ℕ) (us : List Tracker) (u : Tracker) → Rows → Turned
+stepTurn shape x us u r = unless (refusal (stepTests shape x us)) (turnOf shape x u r) (λ c. refuses c u shape r)
 
 -- a drain
-unfoldable pub drainTurn : (t l hand : ℕ) → (us : List Tracker) (u : Tracker) → Rows → Turned
-drainTurn t l hand us u r = unless (refusal (drainTests (all (λ x. isIdle (trackerAt us x)) t))) (accepts hand u (drainedRows l r)) (λ c. refuses c u hand r)
+unfoldable pub drainTurn : Shape → (us : List Tracker) (u : Tracker) → Rows → Turned
+drainTurn shape us u r = unless (refusal (drainTests (all (λ x. isIdle (trackerAt us x)) (shape .t)))) (accepts shape u (drainedRows shape r)) (λ c. refuses c u shape r)
 
-unfoldable pub lineTurn : (n t l hand : ℕ) → Asks → (us : List Tracker) (u : Tracker) → Rows → Turned
-lineTurn n t l hand (news a b c) us u r = refuses 12 u hand r
-lineTurn n t l hand (reads x g bottom) us u r = issueTurn n t hand x (readOf bottom g) us u r
-lineTurn n t l hand (writes x g v bottom) us u r = issueTurn n t hand x (writeOf bottom g v) us u r
-lineTurn n t l hand (steps x) us u r = stepTurn n t l hand x us u r
-lineTurn n t l hand drains us u r = drainTurn t l hand us u r
-lineTurn n t l hand bad us u r = refuses 12 u hand r
+unfoldable pub lineTurn : Shape → Asks → (us : List Tracker) (u : Tracker) → Rows → Turned
+lineTurn shape (news a b c) us u r = refuses 12 u shape r
+lineTurn shape (reads x g bottom) us u r = issueTurn shape x (readOf bottom g) us u r
+lineTurn shape (writes x g v bottom) us u r = issueTurn shape x (writeOf bottom g v) us u r
+lineTurn shape (steps x) us u r = stepTurn shape x us u r
+lineTurn shape drains us u r = drainTurn shape us u r
+lineTurn shape bad us u r = refuses 12 u shape r

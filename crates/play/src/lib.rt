@@ -4,6 +4,7 @@
 use cache::Out;
 use cache::State;
 use geometry::Geometry;
+use geometry::Shape;
 use script::Command;
 use tracker::Access;
 use tracker::Answer;
@@ -51,22 +52,20 @@ pub struct Refused {
 
 // Issue to tracker x: 5, 6, 7, 13.
 fn issue(
-    n: u32,
-    t: u32,
-    hand: usize,
+    shape: Shape,
     x: u32,
     access: Access,
     trackers: [Tracker; Geometry::MOST_TRACKERS],
     u: Tracker,
 ) -> Turned
-    ensures { λ r. ⌜ ((ls bs m : List ℕ) → turned r ls bs m ≡ issueTurn n t hand x access trackers u (rows ls bs m)) ⌝ }
+    ensures { λ r. ⌜ ((ls bs m : List ℕ) → turned r ls bs m ≡ issueTurn shape x access trackers u (rows ls bs m)) ⌝ }
 {
-    let c = whole::issue_refusal(n, t, x as u64, access, trackers);
+    let c = whole::issue_refusal(shape, x as u64, access, trackers);
     if 0 < c {
-        return turned::refuses(c, hand, u);
+        return turned::refuses(c, shape, u);
     }
     Turned {
-        hand,
+        shape,
         tracker: Tracker::begin(access),
         answer: Answer::Accepted,
     }
@@ -74,10 +73,7 @@ fn issue(
 
 // Step of tracker x, which is u: 5, 8.
 fn one_step(
-    n: u32,
-    t: u32,
-    l: usize,
-    hand: usize,
+    shape: Shape,
     x: u32,
     trackers: [Tracker; Geometry::MOST_TRACKERS],
     u: Tracker,
@@ -85,35 +81,33 @@ fn one_step(
     bytes: &mut [u8],
     memory: &mut [u8],
 ) -> Turned
-    ensures { λ r. ⌜ turned r (now (lines .exit)) (now (bytes .exit)) (now (memory .exit)) ≡ stepTurn n t l hand x trackers u (rows (now (lines .entry)) (now (bytes .entry)) (now (memory .entry))) ⌝ }
+    ensures { λ r. ⌜ turned r (now (lines .exit)) (now (bytes .exit)) (now (memory .exit)) ≡ stepTurn shape x trackers u (rows (now (lines .entry)) (now (bytes .entry)) (now (memory .entry))) ⌝ }
 {
-    let c = whole::step_refusal(t, x as u64, trackers);
+    let c = whole::step_refusal(shape, x as u64, trackers);
     if 0 < c {
-        return turned::refuses(c, hand, u);
+        return turned::refuses(c, shape, u);
     }
-    step::turn(n, l, hand, x, u, lines, bytes, memory)
+    step::turn(shape, x, u, lines, bytes, memory)
 }
 
 // Drain: 7.
 fn drain(
-    t: u32,
-    l: usize,
-    hand: usize,
+    shape: Shape,
     trackers: [Tracker; Geometry::MOST_TRACKERS],
     u: Tracker,
     lines: &mut [u32],
     bytes: &[u8],
     memory: &mut [u8],
 ) -> Turned
-    ensures { λ r. ⌜ turned r (now (lines .exit)) (now (bytes .entry)) (now (memory .exit)) ≡ drainTurn t l hand trackers u (rows (now (lines .entry)) (now (bytes .entry)) (now (memory .entry))) ⌝ }
+    ensures { λ r. ⌜ turned r (now (lines .exit)) (now (bytes .entry)) (now (memory .exit)) ≡ drainTurn shape trackers u (rows (now (lines .entry)) (now (bytes .entry)) (now (memory .entry))) ⌝ }
 {
-    let c = whole::drain_refusal(t, trackers);
+    let c = whole::drain_refusal(shape, trackers);
     if 0 < c {
-        return turned::refuses(c, hand, u);
+        return turned::refuses(c, shape, u);
     }
-    lines::drain(l, lines, bytes, memory);
+    lines::drain(shape, lines, bytes, memory);
     Turned {
-        hand,
+        shape,
         tracker: u,
         answer: Answer::Accepted,
     }
@@ -121,10 +115,7 @@ fn drain(
 
 // One line of the script, on the tracker u that it names.
 fn follow(
-    n: u32,
-    t: u32,
-    l: usize,
-    hand: usize,
+    shape: Shape,
     c: Command,
     trackers: [Tracker; Geometry::MOST_TRACKERS],
     u: Tracker,
@@ -132,25 +123,17 @@ fn follow(
     bytes: &mut [u8],
     memory: &mut [u8],
 ) -> Turned
-    ensures { λ r. ⌜ turned r (now (lines .exit)) (now (bytes .exit)) (now (memory .exit)) ≡ lineTurn n t l hand (asks c) trackers u (rows (now (lines .entry)) (now (bytes .entry)) (now (memory .entry))) ⌝ }
+    ensures { λ r. ⌜ turned r (now (lines .exit)) (now (bytes .exit)) (now (memory .exit)) ≡ lineTurn shape (asks c) trackers u (rows (now (lines .entry)) (now (bytes .entry)) (now (memory .entry))) ⌝ }
 {
     match c {
-        Command::New(a, b, d) => turned::refuses(12, hand, u),
-        Command::Read(x, g, bottom) => issue(
-            n,
-            t,
-            hand,
-            x,
-            Access::read_of(bottom, g),
-            trackers,
-            u,
-        ),
+        Command::New(a, b, d) => turned::refuses(12, shape, u),
+        Command::Read(x, g, bottom) => issue(shape, x, Access::read_of(bottom, g), trackers, u),
         Command::Write(x, g, v, bottom) => {
-            issue(n, t, hand, x, Access::write_of(bottom, g, v), trackers, u)
+            issue(shape, x, Access::write_of(bottom, g, v), trackers, u)
         }
-        Command::Step(x) => one_step(n, t, l, hand, x, trackers, u, lines, bytes, memory),
-        Command::Drain => drain(t, l, hand, trackers, u, lines, bytes, memory),
-        Command::Bad => turned::refuses(12, hand, u),
+        Command::Step(x) => one_step(shape, x, trackers, u, lines, bytes, memory),
+        Command::Drain => drain(shape, trackers, u, lines, bytes, memory),
+        Command::Bad => turned::refuses(12, shape, u),
     }
 }
 
@@ -228,15 +211,12 @@ fn play_lines(
     memory: &mut [u8],
     output: &mut [u8],
 ) -> Played
-    requires { ⌜ (whole (seen state) ≡ true) × (lengthsRight (state .n) (state .l) (now bytes) (now memory) ≡ true) ⌝ }
+    requires { ⌜ (whole (seen state) ≡ true) × (lengthsRight (state .shape) (now bytes) (now memory) ≡ true) ⌝ }
     ensures { λ r. ⌜ left r (now (bytes .exit)) (now (memory .exit)) (now (output .exit)) ≡ played follows (length (now (input .entry))) (now (input .entry)) (starts (kept state (now (bytes .entry)) (now (memory .entry))) number (now (output .entry))) ⌝ }
 {
-    let n = state.n;
-    let t = state.t;
-    let l = state.l;
+    let mut shape = state.shape;
     let ls = state.lines;
     let ts = state.trackers;
-    let mut hand = state.hand;
     let mut lines = row(ls);
     let mut trackers = table(ts);
     let mut k = number;
@@ -248,10 +228,11 @@ fn play_lines(
         at = e + 1;
         e = line_end(input, at);
         k += 1;
-        let x = named(t, c);
+        let x = named(shape.t, c);
         let u = trackers[x];
-        let r = follow(n, t, l, hand, c, trackers, u, &mut lines, bytes, memory);
-        hand = r.hand;
+        let r = follow(shape, c, trackers, u, &mut lines, bytes, memory);
+        let moved = r.shape;
+        shape = moved;
         let v = r.tracker;
         trackers[x] = v;
         let a = r.answer;
@@ -259,10 +240,7 @@ fn play_lines(
     }
     Played {
         state: State {
-            n,
-            t,
-            l,
-            hand,
+            shape,
             lines,
             trackers,
         },
@@ -274,15 +252,13 @@ fn play_lines(
 
 // The state is whole and what is lent has the right lengths.
 fn is_ready(state: State, bytes: &[u8], memory: &[u8]) -> bool
-    ensures { λ r. ⌜ r ≡ both (whole (seen state)) (lengthsRight (state .n) (state .l) (now (bytes .entry)) (now (memory .entry))) ⌝ }
+    ensures { λ r. ⌜ r ≡ both (whole (seen state)) (lengthsRight (state .shape) (now (bytes .entry)) (now (memory .entry))) ⌝ }
 {
     if !state.whole() {
         return false;
     }
-    if !lines::bytes_fit(state.l, bytes) {
-        return false;
-    }
-    memory.len() as u64 == Geometry::memory_length(state.n)
+    let shape = state.shape;
+    step::lengths_right(shape, bytes, memory)
 }
 
 // A chunk of a script whose line 1 was accepted: every whole line of it for which there is room in the output.

@@ -13,7 +13,7 @@ use Rattle.laws.proofs.Choice.{both-left, both-right}
 use Rattle.laws.proofs.Refusal.{refusal-hold, refusal-then, unless-0, unless-no}
 use Rattle.geometry.specs.TagMemory.{groups, inLimits, blockPlace, groupPlace}
 use Rattle.geometry.proofs.Limits.{inLimits-most}
-use Rattle.geometry.proofs.Groups.{groups-most}
+use Rattle.geometry.proofs.Places.{groups-most}
 use Rattle.block.specs.Block.{putGroup}
 use Rattle.prediction.specs.Runs.{isRun, runs, bitsLength, putRunBit, anyIn}
 use Rattle.prediction.specs.Calls.{Lent, lent, done, refused, lentTests, groupTests, runTests, fresh, groupRead, read, marked, write, synchronise}

@@ -2,6 +2,7 @@
 // The script is read in chunks. The whole lines of a chunk are played where they lie, and what is left moves to the buffer's front.
 use cache::State;
 use geometry::Geometry;
+use geometry::Shape;
 use script::Command;
 use tracker::Answer;
 use tracker::Tracker;
@@ -22,7 +23,7 @@ struct Stage {
 }
 
 // What a first line needs of the buffers.
-struct Shape {
+struct Room {
     n: u32,
     lines: usize,
 }
@@ -31,10 +32,7 @@ struct Shape {
 fn before() -> Stage {
     let idle = Tracker::rest();
     let state = State {
-        n: 0,
-        t: 0,
-        l: 0,
-        hand: 0,
+        shape: Shape::start(0, 0, 0),
         lines: [0; Geometry::MOST_LINES],
         trackers: [idle; Geometry::MOST_TRACKERS],
     };
@@ -73,17 +71,17 @@ fn write(output: &[u8], written: usize) -> bool {
 }
 
 // The leaves and the lines that line 1 asks for; none where it is of another form.
-fn shape_of(c: Command) -> Shape {
+fn room_of(c: Command) -> Room {
     match c {
-        Command::New(n, l, t) => Shape {
+        Command::New(n, l, t) => Room {
             n,
             lines: least(l as usize, Geometry::MOST_LINES),
         },
-        Command::Read(x, g, bottom) => Shape { n: 0, lines: 0 },
-        Command::Write(x, g, v, bottom) => Shape { n: 0, lines: 0 },
-        Command::Step(x) => Shape { n: 0, lines: 0 },
-        Command::Drain => Shape { n: 0, lines: 0 },
-        Command::Bad => Shape { n: 0, lines: 0 },
+        Command::Read(x, g, bottom) => Room { n: 0, lines: 0 },
+        Command::Write(x, g, v, bottom) => Room { n: 0, lines: 0 },
+        Command::Step(x) => Room { n: 0, lines: 0 },
+        Command::Drain => Room { n: 0, lines: 0 },
+        Command::Bad => Room { n: 0, lines: 0 },
     }
 }
 
@@ -125,7 +123,7 @@ fn first(input: &[u8], bytes: &mut [u8], memory: &mut [u8], output: &mut [u8]) -
     }
     let taken = e + 1;
     let c = script::parse(&input[..e]);
-    let s = shape_of(c);
+    let s = room_of(c);
     let b = bytes_cut(s.lines, bytes);
     let m = memory_cut(s.n, memory);
     let o = play::begin(c, &bytes[..b], &mut memory[..m]);
@@ -157,8 +155,8 @@ fn refused(s: Stage, input: &[u8], output: &mut [u8]) -> Stage {
 // The lines after an accepted line 1.
 fn later(s: Stage, input: &[u8], bytes: &mut [u8], memory: &mut [u8], output: &mut [u8]) -> Stage {
     let state = s.state;
-    let b = bytes_cut(state.l, bytes);
-    let m = memory_cut(state.n, memory);
+    let b = bytes_cut(state.shape.l, bytes);
+    let m = memory_cut(state.shape.n, memory);
     let p = play::play(
         state,
         s.number,

@@ -17,29 +17,29 @@ use Rattle.rules.proofs.Whole.{heldOf, heldOf-yes, heldOf-is, heldOf-ho
 -- a tracker other than x that holds block m
 pub record Another (s : State) (x m : ℕ) : Type 0 where
   pub who : ℕ
-  pub who-lt : who < s .t
+  pub who-lt : who < s .shape .t
   pub not-x : who ≡ x → ⊥
-  pub holds-it : holds (s .n) (trackerAt (s .trackers) who) m ≡ true
+  pub holds-it : holds (s .shape .n) (trackerAt (s .trackers) who) m ≡ true
 
 module _ (s : State) (f : Whole s) (x m : ℕ) where
-  pub named-another : holdsAt (trackerAt (s .trackers) x .phase) ≡ false → lineOf (s .lines) (s .l) m < s .l → held (at (s .lines) (lineOf (s .lines) (s .l) m)) ≡ true → Another s x m
+  pub named-another : holdsAt (trackerAt (s .trackers) x .phase) ≡ false → lineOf (s .lines) (s .shape .l) m < s .shape .l → held (at (s .lines) (lineOf (s .lines) (s .shape .l) m)) ≡ true → Another s x m
   named-another free q h =
-      let i = lineOf (s .lines) (s .l) m in
+      let i = lineOf (s .lines) (s .shape .l) m in
       let p : 0 < holder (at (s .lines) i) = held-holder _ h in
-      let r = f .lined .named i m (lineOf-has (s .lines) (s .l) m q) p in
+      let r = f .lined .named i m (lineOf-has (s .lines) (s .shape .l) m q) p in
       let y = r .0 in
       record {
         who = holder (at (s .lines) i) - 1;
         who-lt = omega arith;
-        not-x = λ e. not-both-ways (heldOf-is (s .n) (s .trackers) x m (ap (heldOf (s .n) (s .trackers)) (sym e) ∙ r .1) .0) free;
-        holds-it = heldOf-holds (s .n) (s .trackers) _ m (r .1);
+        not-x = λ e. not-both-ways (heldOf-is (s .shape .n) (s .trackers) x m (ap (heldOf (s .shape .n) (s .trackers)) (sym e) ∙ r .1) .0) free;
+        holds-it = heldOf-holds (s .shape .n) (s .trackers) _ m (r .1);
       }
 
-  pub another-named : Another s x m → (lineOf (s .lines) (s .l) m < s .l) × (held (at (s .lines) (lineOf (s .lines) (s .l) m)) ≡ true)
+  pub another-named : Another s x m → (lineOf (s .lines) (s .shape .l) m < s .shape .l) × (held (at (s .lines) (lineOf (s .lines) (s .shape .l) m)) ≡ true)
   unfolding holds
   another-named a =
-      let e : heldOf (s .n) (s .trackers) (a .who) ≡ suc m = heldOf-yes (s .n) (s .trackers) (a .who) (both-left _ _ (a .holds-it)) ∙ ap suc (eqb-true _ _ (both-right _ _ (a .holds-it))) in
+      let e : heldOf (s .shape .n) (s .trackers) (a .who) ≡ suc m = heldOf-yes (s .shape .n) (s .trackers) (a .who) (both-left _ _ (a .holds-it)) ∙ ap suc (eqb-true _ _ (both-right _ _ (a .holds-it))) in
       let h = f .lined .in-line (a .who) m (a .who-lt) e in
-      let i : lineOf (s .lines) (s .l) m ≡ h .line = lineOf-is (f .lined) (h .line) m (h .has-it) in
+      let i : lineOf (s .lines) (s .shape .l) m ≡ h .line = lineOf-is (f .lined) (h .line) m (h .has-it) in
       let p : 0 < holder (at (s .lines) (h .line)) = omega (arith, h .is-holder) in
       rw i (low (f .lined) (h .line) m (h .has-it), holder-held _ p)

@@ -12,6 +12,7 @@ use Rattle.laws.specs.Refusal.{refusal, unless}
 use Rattle.laws.proofs.Refusal.{refusal-hold, refused-or-not, unless-0, unless-no, unless-by}
 use Rattle.memory.specs.True.{isTrue, clearedMap}
 use Rattle.tracker.specs.Answer.{ok, no}
+use Rattle.geometry.specs.Shape.{shapeOf}
 use Rattle.geometry.specs.TagMemory.{mostTrackers, mostLines}
 use Rattle.tracker.specs.declared.Tracker.{Tracker}
 use Rattle.tracker.specs.Tracker.{idle, isIdle, holdsAt}
@@ -23,7 +24,7 @@ use Rattle.line.proofs.Words.{free-used}
 use Rattle.rules.proofs.Lined.{at, Has}
 use Rattle.rules.proofs.Whole.{heldOf, heldOf-no, Whole, facts-whole, t-most, l-least, l-most}
 
-module _ (n t l : ℕ) (lim : limits n t l ≡ true) where
+module _ (n t l : ℕ) (lim : limits (shapeOf n t l) ≡ true) where
   free-line : (i : ℕ) → used (at (replicate mostLines 0) i) ≡ false
   free-line i = ap used (getD-replicate mostLines i 0) ∙ free-used
 
@@ -36,12 +37,12 @@ module _ (n t l : ℕ) (lim : limits n t l ≡ true) where
   no-hold : (x : ℕ) → heldOf n (replicate mostTrackers idle) x ≡ 0
   no-hold x = heldOf-no n (replicate mostTrackers idle) x (ap (λ (u : Tracker). holdsAt (u .phase)) (idle-tracker x))
 
-  pub begun-whole : whole (begun n t l) ≡ true
-  begun-whole = facts-whole (begun n t l) (record {
+  pub begun-whole : whole (begun (shapeOf n t l)) ≡ true
+  begun-whole = facts-whole (begun (shapeOf n t l)) (record {
     limits-ok = lim;
-    hand-lt = omega (arith, l-least n t l lim);
+    hand-lt = omega (arith, l-least (shapeOf n t l) lim);
     lined = record {
-      long = l-most n t l lim;
+      long = l-most (shapeOf n t l) lim;
       above = λ i q. free-line i;
       exists = λ i b h. absurd (none i b h);
       one = λ i j b h h'. absurd (none i b h);
@@ -49,7 +50,7 @@ module _ (n t l : ℕ) (lim : limits n t l ≡ true) where
       in-line = λ x m q e. absurd (let z = no-hold x in omega arith);
     };
     tracked = record {
-      long = t-most n t l lim;
+      long = t-most (shapeOf n t l) lim;
       above = λ x q. ap isIdle (idle-tracker x);
       group-lt = λ x e. absurd (not-both-ways (ap isIdle (idle-tracker x)) e);
       phase-ok = λ x. ap (λ (u : Tracker). phaseWhole (u .write) (u .bottom) (u .phase)) (idle-tracker x);
@@ -70,43 +71,43 @@ passed c o s bytes memory e = ⊎-elim (λ z. z) (λ h. absurd (ok-not-no (sym (
 
 -- fresh and open: not refused, refused
 module _ (n t l : ℕ) (bytes memory : List ℕ) where
-  pub fresh-passed : fresh n t l bytes memory .said ≡ ok → refusal (freshTests n t l bytes memory) ≡ 0
+  pub fresh-passed : fresh n t l bytes memory .said ≡ ok → refusal (freshTests (shapeOf n t l) bytes memory) ≡ 0
   unfolding fresh
   fresh-passed e = passed _ _ _ _ _ e
 
-  pub open-passed : opened n t l bytes memory .said ≡ ok → refusal (openTests n t l bytes memory) ≡ 0
+  pub open-passed : opened n t l bytes memory .said ≡ ok → refusal (openTests (shapeOf n t l) bytes memory) ≡ 0
   unfolding opened
   open-passed e = passed _ _ _ _ _ e
 
-  module _ (free : refusal (freshTests n t l bytes memory) ≡ 0) where
-    pub fresh-accepted : fresh n t l bytes memory ≡ accepted (begun n t l) bytes (clearedMap n memory)
+  module _ (free : refusal (freshTests (shapeOf n t l) bytes memory) ≡ 0) where
+    pub fresh-accepted : fresh n t l bytes memory ≡ accepted (begun (shapeOf n t l)) bytes (clearedMap n memory)
     unfolding fresh
     fresh-accepted = unless-0 _ _ free
 
-    pub fresh-free : (limits n t l ≡ true) × (lengthsRight n l bytes memory ≡ true)
-    fresh-free = let h = refusal-hold (freshTests n t l bytes memory) refl free in (h .0, h .1 .0)
+    pub fresh-free : (limits (shapeOf n t l) ≡ true) × (lengthsRight (shapeOf n t l) bytes memory ≡ true)
+    fresh-free = let h = refusal-hold (freshTests (shapeOf n t l) bytes memory) refl free in (h .0, h .1 .0)
 
-  module _ (free : refusal (openTests n t l bytes memory) ≡ 0) where
-    pub open-accepted : opened n t l bytes memory ≡ accepted (begun n t l) bytes memory
+  module _ (free : refusal (openTests (shapeOf n t l) bytes memory) ≡ 0) where
+    pub open-accepted : opened n t l bytes memory ≡ accepted (begun (shapeOf n t l)) bytes memory
     unfolding opened
     open-accepted = unless-0 _ _ free
 
-    pub open-free : (limits n t l ≡ true) × (lengthsRight n l bytes memory ≡ true) × (isTrue n memory ≡ true)
-    open-free = let h = refusal-hold (openTests n t l bytes memory) refl free in (h .0, h .1 .0, h .1 .1 .0)
+    pub open-free : (limits (shapeOf n t l) ≡ true) × (lengthsRight (shapeOf n t l) bytes memory ≡ true) × (isTrue n memory ≡ true)
+    open-free = let h = refusal-hold (openTests (shapeOf n t l) bytes memory) refl free in (h .0, h .1 .0, h .1 .1 .0)
 
-  pub fresh-refused : 0 < refusal (freshTests n t l bytes memory) → fresh n t l bytes memory ≡ refused (refusal (freshTests n t l bytes memory)) zeroState bytes memory
+  pub fresh-refused : 0 < refusal (freshTests (shapeOf n t l) bytes memory) → fresh n t l bytes memory ≡ refused (refusal (freshTests (shapeOf n t l) bytes memory)) zeroState bytes memory
   unfolding fresh
   fresh-refused h = unless-no _ _ h
 
-  pub open-refused : 0 < refusal (openTests n t l bytes memory) → opened n t l bytes memory ≡ refused (refusal (openTests n t l bytes memory)) zeroState bytes memory
+  pub open-refused : 0 < refusal (openTests (shapeOf n t l) bytes memory) → opened n t l bytes memory ≡ refused (refusal (openTests (shapeOf n t l) bytes memory)) zeroState bytes memory
   unfolding opened
   open-refused h = unless-no _ _ h
 
   -- refused or not, every tracker is idle
   pub fresh-trackers : fresh n t l bytes memory .state .trackers ≡ replicate mostTrackers idle
   unfolding fresh
-  fresh-trackers = unless-by {c = refusal (freshTests n t l bytes memory)} _ (λ c. refused c zeroState bytes memory) (λ (o : Out). o .state .trackers ≡ replicate mostTrackers idle) (λ _. refl) (λ _. refl)
+  fresh-trackers = unless-by {c = refusal (freshTests (shapeOf n t l) bytes memory)} _ (λ c. refused c zeroState bytes memory) (λ (o : Out). o .state .trackers ≡ replicate mostTrackers idle) (λ _. refl) (λ _. refl)
 
   pub open-trackers : opened n t l bytes memory .state .trackers ≡ replicate mostTrackers idle
   unfolding opened
-  open-trackers = unless-by {c = refusal (openTests n t l bytes memory)} _ (λ c. refused c zeroState bytes memory) (λ (o : Out). o .state .trackers ≡ replicate mostTrackers idle) (λ _. refl) (λ _. refl)
+  open-trackers = unless-by {c = refusal (openTests (shapeOf n t l) bytes memory)} _ (λ c. refused c zeroState bytes memory) (λ (o : Out). o .state .trackers ≡ replicate mostTrackers idle) (λ _. refl) (λ _. refl)

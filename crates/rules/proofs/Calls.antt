@@ -9,6 +9,8 @@ use lib.ListN.{length, set, length-set}
 use borrow.Author.Tests.{lt-ltb, ltb-true, le-leb, eqb-true, eq-eqb, not-true}
 use native.Mathlib.Decide.{ℕ-discrete}
 use Rattle.tracker.proofs.Phases.{idle-loose}
+use Rattle.geometry.specs.declared.Shape.{Shape}
+use Rattle.geometry.specs.Shape.{atHand}
 use Rattle.geometry.specs.TagMemory.{groups, memoryLength, blocks}
 use Rattle.laws.proofs.Choice.{true-or-false, both-left, both-right, both-true}
 use Rattle.laws.proofs.Splice.{lt-or-ge}
@@ -21,57 +23,60 @@ use Rattle.line.specs.Word.{blockOf, holder, cleaned, holders}
 use Rattle.rules.specs.State.{State, Rows, trackerAt, lengthsRight}
 use Rattle.rules.specs.Whole.{phaseWhole, whole}
 use Rattle.rules.specs.Place.{rowsFit, drained}
-use Rattle.rules.specs.Step.{fit, byPhase, turnOf}
+use Rattle.rules.specs.Step.{Turned, fit, byPhase, turnOf}
 use Rattle.rules.specs.Calls.{Out, refused, accepted, withTracker, withLines, stateTests, meetsNone, issueTests, issueNo, issue, stepped, stepTests, stepNo, step, allIdle, drainTests, drainNo, drain}
 use Rattle.line.proofs.Words.{blockOf-cleaned, holder-cleaned, used-cleaned}
 use Rattle.rules.proofs.Lined.{at, Lined, loose-lined, same-holds}
-use Rattle.rules.proofs.Whole.{heldOf, heldOf-no, Whole, whole-facts, facts-whole, inLimits-of, t-most, l-least}
+use Rattle.rules.proofs.Whole.{heldOf, heldOf-no, Whole, whole-facts, facts-whole, inLimits-of, limits-hand, t-most, l-least}
 use Rattle.rules.proofs.Placed.{written-length, held-used}
 use Rattle.rules.proofs.Keeps.{isNo, Keeps, Situation, keeps-byPhase, tracked-set, heldOf-other, tracker-same}
 use Rattle.rules.proofs.Ways.{turn-is}
 
 -- the lengths, as facts
-module _ (n l : ℕ) (bytes memory : List ℕ) where
-  pub bytes-right : lengthsRight n l bytes memory ≡ true → length bytes ≡ 64 * l
+module _ (shape : Shape) (bytes memory : List ℕ) where
+  pub bytes-right : lengthsRight shape bytes memory ≡ true → length bytes ≡ 64 * shape .l
   unfolding lengthsRight
   bytes-right h = eqb-true _ _ (both-left _ _ h)
 
-  pub memory-right : lengthsRight n l bytes memory ≡ true → length memory ≡ memoryLength n
+  pub memory-right : lengthsRight shape bytes memory ≡ true → length memory ≡ memoryLength (shape .n)
   unfolding lengthsRight
   memory-right h = eqb-true _ _ (both-right _ _ h)
 
-  pub lengths-right : length bytes ≡ 64 * l → length memory ≡ memoryLength n → lengthsRight n l bytes memory ≡ true
+  pub lengths-right : length bytes ≡ 64 * shape .l → length memory ≡ memoryLength (shape .n) → lengthsRight shape bytes memory ≡ true
   unfolding lengthsRight
   lengths-right p q = both-true _ _ (eq-eqb _ _ p) (eq-eqb _ _ q)
 
--- what a call leaves: a whole state, of the same n, t and l, and lent bytes of the right lengths
-pub record Sound (n t l : ℕ) (o : Out) : Type 0 where
-  pub n-is : o .state .n ≡ n
-  pub t-is : o .state .t ≡ t
-  pub l-is : o .state .l ≡ l
-  pub is-whole : whole (o .state) ≡ true
-  pub right : lengthsRight n l (o .bytes) (o .memory) ≡ true
+  -- nor do the lengths ask for the hand
+  pub lengths-hand : (h : ℕ) → lengthsRight (atHand shape h) bytes memory ≡ lengthsRight shape bytes memory
+  unfolding lengthsRight
+  lengths-hand h = refl
 
-module _ (s : State) (bytes memory : List ℕ) (w : whole s ≡ true) (len : lengthsRight (s .n) (s .l) bytes memory ≡ true) where
+-- what a call leaves: a whole state, of the same shape but for the hand, and lent bytes of the right lengths
+pub record Sound (shape : Shape) (o : Out) : Type 0 where
+  pub is-shape : o .state .shape ≡ atHand shape (o .state .shape .hand)
+  pub is-whole : whole (o .state) ≡ true
+  pub right : lengthsRight (o .state .shape) (o .bytes) (o .memory) ≡ true
+
+module _ (s : State) (bytes memory : List ℕ) (w : whole s ≡ true) (len : lengthsRight (s .shape) bytes memory ≡ true) where
   f : Whole s
   f = whole-facts s w
 
-  pub refused-sound : (c : ℕ) → Sound (s .n) (s .t) (s .l) (refused c s bytes memory)
-  refused-sound c = record { n-is = refl; t-is = refl; l-is = refl; is-whole = w; right = len }
+  pub refused-sound : (c : ℕ) → Sound (s .shape) (refused c s bytes memory)
+  refused-sound c = record { is-shape = refl; is-whole = w; right = len }
 
   abbrev pub rows : Rows
   rows = record { lines = s .lines; bytes = bytes; memory = memory }
 
-  pub rows-fit : rowsFit (s .l) (s .lines) bytes ≡ true
+  pub rows-fit : rowsFit (s .shape .l) (s .lines) bytes ≡ true
   unfolding rowsFit
-  rows-fit = both-true _ _ (le-leb _ _ (f .lined .long)) (eq-eqb _ _ (bytes-right (s .n) (s .l) bytes memory len))
+  rows-fit = both-true _ _ (le-leb _ _ (f .lined .long)) (eq-eqb _ _ (bytes-right (s .shape) bytes memory len))
 
   -- past 4 and 2 a call's refusal is that of its own tests
-  issueNo-is : (x : ℕ) (a : Access) → issueNo s bytes memory x a ≡ refusal (issueTests (s .n) (s .t) x a (s .trackers))
+  issueNo-is : (x : ℕ) (a : Access) → issueNo s bytes memory x a ≡ refusal (issueTests (s .shape) x a (s .trackers))
   unfolding issueNo
   issueNo-is x a = refusal-past (stateTests s bytes memory) _ (w, (len, tt))
 
-  stepNo-is : (x : ℕ) → stepNo s bytes memory x ≡ refusal (stepTests (s .t) x (s .trackers))
+  stepNo-is : (x : ℕ) → stepNo s bytes memory x ≡ refusal (stepTests (s .shape) x (s .trackers))
   unfolding stepNo
   stepNo-is x = refusal-past (stateTests s bytes memory) _ (w, (len, tt))
 
@@ -79,14 +84,11 @@ module _ (s : State) (bytes memory : List ℕ) (w : whole s ≡ true) (len : len
   unfolding drainNo
   drainNo-is = refusal-past (stateTests s bytes memory) _ (w, (len, tt))
 
-  module _ (x : ℕ) (xl : x < s .t) where
+  module _ (x : ℕ) (xl : x < s .shape .t) where
     module _ (busy : isIdle (trackerAt (s .trackers) x) ≡ false) where
       abbrev pub situation : Situation
       situation = record {
-        n = s .n;
-        t = s .t;
-        l = s .l;
-        hand = s .hand;
+        shape = s .shape;
         x = x;
         ts = s .trackers;
         r = rows;
@@ -101,64 +103,73 @@ module _ (s : State) (bytes memory : List ℕ) (w : whole s ≡ true) (len : len
         busy = busy;
       }
 
-      pub turn-fit : fit (s .n) (s .l) x (trackerAt (s .trackers) x) rows ≡ true
+      pub turn-fit : fit (s .shape) x (trackerAt (s .trackers) x) rows ≡ true
       unfolding fit
       turn-fit =
-          let x1 : x < holders = omega (arith, t-most (s .n) (s .t) (s .l) (f .limits-ok)) in
-          both-true _ _ (both-true _ _ (inLimits-of (s .n) (s .t) (s .l) (f .limits-ok)) (le-leb _ _ (f .lined .long)))
+          let x1 : x < holders = omega (arith, t-most (s .shape) (f .limits-ok)) in
+          both-true _ _ (both-true _ _ (inLimits-of (s .shape) (f .limits-ok)) (le-leb _ _ (f .lined .long)))
           (both-true _ _ (lt-ltb _ _ (f .tracked .group-lt x busy)) (lt-ltb _ _ x1))
 
       -- the core's step is the rule of the tracker's phase
-      pub turn-byPhase : turnOf (s .n) (s .l) (s .hand) x (trackerAt (s .trackers) x) rows ≡ byPhase (s .n) (s .l) (s .hand) x (trackerAt (s .trackers) x) rows (trackerAt (s .trackers) x .phase)
-      turn-byPhase = turn-is (s .n) (s .l) (s .hand) x (trackerAt (s .trackers) x) rows turn-fit len
+      pub turn-byPhase : turnOf (s .shape) x (trackerAt (s .trackers) x) rows ≡ byPhase (s .shape) x (trackerAt (s .trackers) x) rows (trackerAt (s .trackers) x .phase)
+      turn-byPhase = turn-is (s .shape) x (trackerAt (s .trackers) x) rows turn-fit len
 
-      pub turn-keeps : Keeps (s .n) (s .l) (s .t) x (s .trackers) rows (turnOf (s .n) (s .l) (s .hand) x (trackerAt (s .trackers) x) rows)
+      pub turn-keeps : Keeps (s .shape) x (s .trackers) rows (turnOf (s .shape) x (trackerAt (s .trackers) x) rows)
       turn-keeps = rw turn-byPhase (keeps-byPhase situation (trackerAt (s .trackers) x .phase) refl)
 
       -- "the public step is the core"
-      pub step-is : step s bytes memory x ≡ stepped s x (turnOf (s .n) (s .l) (s .hand) x (trackerAt (s .trackers) x) rows)
+      pub step-is : step s bytes memory x ≡ stepped s x (turnOf (s .shape) x (trackerAt (s .trackers) x) rows)
       unfolding step
-      step-is = unless-0 _ _ (stepNo-is x ∙ refusal-0 (stepTests (s .t) x (s .trackers)) (lt-ltb _ _ xl, (ap not busy, tt)))
+      step-is = unless-0 _ _ (stepNo-is x ∙ refusal-0 (stepTests (s .shape) x (s .trackers)) (lt-ltb _ _ xl, (ap not busy, tt)))
 
-      pub step-sound : Sound (s .n) (s .t) (s .l) (step s bytes memory x)
+      pub step-sound : Sound (s .shape) (step s bytes memory x)
       step-sound = rw step-is (record {
-        n-is = refl;
-        t-is = refl;
-        l-is = refl;
-        is-whole = facts-whole _ (record { limits-ok = f .limits-ok; hand-lt = turn-keeps .hand-lt; lined = turn-keeps .lined; tracked = turn-keeps .tracked });
-        right = lengths-right (s .n) (s .l) _ _ (turn-keeps .bytes-long ∙ bytes-right (s .n) (s .l) bytes memory len) (turn-keeps .memory-long ∙ memory-right (s .n) (s .l) bytes memory len);
+        is-shape = k .shaped .is-shape;
+        is-whole = subst (λ (z : Shape). whole (state z) ≡ true) (sym (k .shaped .is-shape)) (facts-whole (state (atHand (s .shape) (o .shape .hand)))
+            (record { limits-ok = limits-hand (s .shape) (o .shape .hand) ∙ f .limits-ok; hand-lt = k .shaped .hand-lt; lined = k .lined; tracked = k .tracked }));
+        right = subst (λ (z : Shape). lengthsRight z (o .rows .bytes) (o .rows .memory) ≡ true) (sym (k .shaped .is-shape))
+            (lengths-hand (s .shape) _ _ (o .shape .hand) ∙ lengths-right (s .shape) _ _ (k .bytes-long ∙ bytes-right (s .shape) bytes memory len) (k .memory-long ∙ memory-right (s .shape) bytes memory len));
       })
+        where
+          o : Turned
+          o = turnOf (s .shape) x (trackerAt (s .trackers) x) rows
+
+          k : Keeps (s .shape) x (s .trackers) rows o
+          k = turn-keeps
+
+          state : Shape → State
+          state z = record { shape = z; lines = o .rows .lines; trackers = set (s .trackers) x (o .tracker) }
 
       pub step-not-refused : isNo (step s bytes memory x .said) ≡ false
       step-not-refused = rw step-is (turn-keeps .says)
 
-  pub step-refused : (x : ℕ) → 0 < refusal (stepTests (s .t) x (s .trackers)) → step s bytes memory x ≡ refused (refusal (stepTests (s .t) x (s .trackers))) s bytes memory
+  pub step-refused : (x : ℕ) → 0 < refusal (stepTests (s .shape) x (s .trackers)) → step s bytes memory x ≡ refused (refusal (stepTests (s .shape) x (s .trackers))) s bytes memory
   unfolding step
   step-refused x h = rw (stepNo-is x) (unless-no _ _ h)
 
   -- where a step is not refused
-  pub step-free : (x : ℕ) → refusal (stepTests (s .t) x (s .trackers)) ≡ 0 → (x < s .t) × (isIdle (trackerAt (s .trackers) x) ≡ false)
-  step-free x e = let h = refusal-hold (stepTests (s .t) x (s .trackers)) refl e in (ltb-true _ _ (h .0), not-true _ (h .1 .0))
+  pub step-free : (x : ℕ) → refusal (stepTests (s .shape) x (s .trackers)) ≡ 0 → (x < s .shape .t) × (isIdle (trackerAt (s .trackers) x) ≡ false)
+  step-free x e = let h = refusal-hold (stepTests (s .shape) x (s .trackers)) refl e in (ltb-true _ _ (h .0), not-true _ (h .1 .0))
 
-  pub step-kept : (x : ℕ) → Sound (s .n) (s .t) (s .l) (step s bytes memory x)
+  pub step-kept : (x : ℕ) → Sound (s .shape) (step s bytes memory x)
   step-kept x = ⊎-elim (λ e. let h = step-free x e in step-sound x (h .0) (h .1)) (λ h. rw (step-refused x h) (refused-sound _))
-      (refused-or-not (refusal (stepTests (s .t) x (s .trackers))))
+      (refused-or-not (refusal (stepTests (s .shape) x (s .trackers))))
 
   -- issue
   module _ (x : ℕ) (a : Access) where
-    pub issue-refused : 0 < refusal (issueTests (s .n) (s .t) x a (s .trackers))
-        → issue s bytes memory x a ≡ refused (refusal (issueTests (s .n) (s .t) x a (s .trackers))) s bytes memory
+    pub issue-refused : 0 < refusal (issueTests (s .shape) x a (s .trackers))
+        → issue s bytes memory x a ≡ refused (refusal (issueTests (s .shape) x a (s .trackers))) s bytes memory
     unfolding issue
     issue-refused h = rw (issueNo-is x a) (unless-no _ _ h)
 
-    module _ (free : refusal (issueTests (s .n) (s .t) x a (s .trackers)) ≡ 0) where
+    module _ (free : refusal (issueTests (s .shape) x a (s .trackers)) ≡ 0) where
       pub issue-accepted : issue s bytes memory x a ≡ accepted (withTracker s x (issued a)) bytes memory
       unfolding issue
       issue-accepted = unless-0 _ _ (issueNo-is x a ∙ free)
 
       -- where an issue is not refused
-      pub issue-free : (x < s .t) × (a .group < groups (s .n)) × (isIdle (trackerAt (s .trackers) x) ≡ true) × (meetsNone (s .t) a (s .trackers) ≡ true)
-      issue-free = let h = refusal-hold (issueTests (s .n) (s .t) x a (s .trackers)) refl free in (ltb-true _ _ (h .0), ltb-true _ _ (h .1 .0), h .1 .1 .0, h .1 .1 .1 .0)
+      pub issue-free : (x < s .shape .t) × (a .group < groups (s .shape .n)) × (isIdle (trackerAt (s .trackers) x) ≡ true) × (meetsNone (s .shape .t) a (s .trackers) ≡ true)
+      issue-free = let h = refusal-hold (issueTests (s .shape) x a (s .trackers)) refl free in (ltb-true _ _ (h .0), ltb-true _ _ (h .1 .0), h .1 .1 .0, h .1 .1 .1 .0)
 
       first-free : (b : Bool) → holdsAt (firstPhase b) ≡ false
       first-free true = refl
@@ -171,48 +182,46 @@ module _ (s : State) (bytes memory : List ℕ) (w : whole s ≡ true) (len : len
       xlong : x < length (s .trackers)
       xlong = omega (arith, f .tracked .long, issue-free .0)
 
-      issue-lined : Lined (blocks (s .n)) (s .l) (s .t) (heldOf (s .n) (set (s .trackers) x (issued a))) (s .lines)
+      issue-lined : Lined (blocks (s .shape .n)) (s .shape .l) (s .shape .t) (heldOf (s .shape .n) (set (s .trackers) x (issued a))) (s .lines)
       issue-lined = same-holds (f .lined) (λ y. by y (ℕ-discrete y x))
         where
-          by : (y : ℕ) → Dec (y ≡ x) → heldOf (s .n) (set (s .trackers) x (issued a)) y ≡ heldOf (s .n) (s .trackers) y
-          by y (yes q) = rw q (heldOf-no (s .n) _ x (rw (tracker-same (s .trackers) x (issued a) xlong) (first-free (a .bottom)))
-              ∙ sym (heldOf-no (s .n) (s .trackers) x (idle-loose (trackerAt (s .trackers) x .phase) (issue-free .2))))
-          by y (no q) = heldOf-other (s .n) (s .trackers) x y (issued a) q
+          by : (y : ℕ) → Dec (y ≡ x) → heldOf (s .shape .n) (set (s .trackers) x (issued a)) y ≡ heldOf (s .shape .n) (s .trackers) y
+          by y (yes q) = rw q (heldOf-no (s .shape .n) _ x (rw (tracker-same (s .trackers) x (issued a) xlong) (first-free (a .bottom)))
+              ∙ sym (heldOf-no (s .shape .n) (s .trackers) x (idle-loose (trackerAt (s .trackers) x .phase) (issue-free .2))))
+          by y (no q) = heldOf-other (s .shape .n) (s .trackers) x y (issued a) q
 
-      issue-sound : Sound (s .n) (s .t) (s .l) (accepted (withTracker s x (issued a)) bytes memory)
+      issue-sound : Sound (s .shape) (accepted (withTracker s x (issued a)) bytes memory)
       issue-sound = record {
-        n-is = refl;
-        t-is = refl;
-        l-is = refl;
+        is-shape = refl;
         is-whole = facts-whole _ (record {
           limits-ok = f .limits-ok;
           hand-lt = f .hand-lt;
           lined = issue-lined;
-          tracked = tracked-set (s .n) (s .t) (s .trackers) x (issued a) (f .tracked) (issue-free .0) (λ _. issue-free .1) (first-ok (a .bottom));
+          tracked = tracked-set (s .shape .n) (s .shape .t) (s .trackers) x (issued a) (f .tracked) (issue-free .0) (λ _. issue-free .1) (first-ok (a .bottom));
         });
         right = len;
       }
 
-    pub issue-kept : Sound (s .n) (s .t) (s .l) (issue s bytes memory x a)
+    pub issue-kept : Sound (s .shape) (issue s bytes memory x a)
     issue-kept = ⊎-elim (λ e. rw (issue-accepted e) (issue-sound e)) (λ h. rw (issue-refused h) (refused-sound _))
-        (refused-or-not (refusal (issueTests (s .n) (s .t) x a (s .trackers))))
+        (refused-or-not (refusal (issueTests (s .shape) x a (s .trackers))))
 
-  few : s .t < s .l
-  few = omega (arith, l-least (s .n) (s .t) (s .l) (f .limits-ok))
+  few : s .shape .t < s .shape .l
+  few = omega (arith, l-least (s .shape) (f .limits-ok))
 
-  fit-of : (lines : List ℕ) → s .l ≤ length lines → rowsFit (s .l) lines bytes ≡ true
+  fit-of : (lines : List ℕ) → s .shape .l ≤ length lines → rowsFit (s .shape .l) lines bytes ≡ true
   unfolding rowsFit
-  fit-of lines q = both-true _ _ (le-leb _ _ q) (eq-eqb _ _ (bytes-right (s .n) (s .l) bytes memory len))
+  fit-of lines q = both-true _ _ (le-leb _ _ q) (eq-eqb _ _ (bytes-right (s .shape) bytes memory len))
 
   -- draining: the first i lines
   module _ (idle-all : allIdle s ≡ true) where
-    none-held : (x : ℕ) → heldOf (s .n) (s .trackers) x ≡ 0
+    none-held : (x : ℕ) → heldOf (s .shape .n) (s .trackers) x ≡ 0
     unfolding allIdle
-    none-held x = heldOf-no (s .n) (s .trackers) x (idle-loose (trackerAt (s .trackers) x .phase)
-        (⊎-elim (λ q. all-at (λ y. isIdle (trackerAt (s .trackers) y)) (s .t) idle-all x q) (λ q. f .tracked .above x q) (lt-or-ge x (s .t))))
+    none-held x = heldOf-no (s .shape .n) (s .trackers) x (idle-loose (trackerAt (s .trackers) x .phase)
+        (⊎-elim (λ q. all-at (λ y. isIdle (trackerAt (s .trackers) y)) (s .shape .t) idle-all x q) (λ q. f .tracked .above x q) (lt-or-ge x (s .shape .t))))
 
     -- nobody holds a line
-    no-holder : {lines : List ℕ} → Lined (blocks (s .n)) (s .l) (s .t) (heldOf (s .n) (s .trackers)) lines → (i : ℕ) → holder (at lines i) ≡ 0
+    no-holder : {lines : List ℕ} → Lined (blocks (s .shape .n)) (s .shape .l) (s .shape .t) (heldOf (s .shape .n) (s .trackers)) lines → (i : ℕ) → holder (at lines i) ≡ 0
     no-holder {lines} v i = go (ℕ-discrete (holder (at lines i)) 0)
       where
         go : Dec (holder (at lines i) ≡ 0) → holder (at lines i) ≡ 0
@@ -221,46 +230,44 @@ module _ (s : State) (bytes memory : List ℕ) (w : whole s ≡ true) (len : len
             let z = none-held (holder (at lines i) - 1) in let y = r .1 in omega arith)
 
     pub record Drains (d : Rows) : Type 0 where
-      pub lined : Lined (blocks (s .n)) (s .l) (s .t) (heldOf (s .n) (s .trackers)) (d .lines)
+      pub lined : Lined (blocks (s .shape .n)) (s .shape .l) (s .shape .t) (heldOf (s .shape .n) (s .trackers)) (d .lines)
       pub bytes-is : d .bytes ≡ bytes
       pub lines-long : length (d .lines) ≡ length (s .lines)
       pub memory-long : length (d .memory) ≡ length memory
 
-    pub drains : (i : ℕ) → i ≤ s .l → Drains (drained i rows)
+    pub drains : (i : ℕ) → i ≤ s .shape .l → Drains (drained i rows)
     unfolding drained
     drains zero q = record { lined = f .lined; bytes-is = refl; lines-long = refl; memory-long = refl }
     drains (suc i) q =
         let d : Drains (drained i rows) = drains i (omega arith) in
         let c = at (drained i rows .lines) i in
         let bl : blockOf (cleaned c) ≡ blockOf c = blockOf-cleaned c in
-        let fits : rowsFit (s .l) (drained i rows .lines) (drained i rows .bytes) ≡ true = subst (λ (y : List ℕ). rowsFit (s .l) (drained i rows .lines) y ≡ true) (sym (d .bytes-is)) (fit-of (drained i rows .lines) (d .lined .long)) in
+        let fits : rowsFit (s .shape .l) (drained i rows .lines) (drained i rows .bytes) ≡ true = subst (λ (y : List ℕ). rowsFit (s .shape .l) (drained i rows .lines) y ≡ true) (sym (d .bytes-is)) (fit-of (drained i rows .lines) (d .lined .long)) in
         record {
           lined = loose-lined (d .lined) i (cleaned c) (omega arith) (no-holder (d .lined) i) (holder-cleaned c ∙ no-holder (d .lined) i)
               (λ u. rw bl (d .lined .exists i (blockOf c) (record { is-used = sym (used-cleaned c) ∙ u; is-block = refl })))
               (λ u j n h. n (d .lined .one j i (blockOf c) (rw bl at h) (record { is-used = sym (used-cleaned c) ∙ u; is-block = refl })));
           bytes-is = d .bytes-is;
           lines-long = simp length-set (d .lines-long);
-          memory-long = written-length (drained i rows) 0 (d .lined) few fits i (omega arith) ∙ d .memory-long;
+          memory-long = written-length (s .shape) (drained i rows) (d .lined) few fits i (omega arith) ∙ d .memory-long;
         }
 
-    pub drain-is : drain s bytes memory ≡ accepted (withLines s (drained (s .l) rows .lines)) bytes (drained (s .l) rows .memory)
+    pub drain-is : drain s bytes memory ≡ accepted (withLines s (drained (s .shape .l) rows .lines)) bytes (drained (s .shape .l) rows .memory)
     unfolding drain
     drain-is = unless-0 _ _ (drainNo-is ∙ refusal-0 (drainTests (allIdle s)) (idle-all, tt))
 
-    pub drain-sound : Sound (s .n) (s .t) (s .l) (drain s bytes memory)
+    pub drain-sound : Sound (s .shape) (drain s bytes memory)
     drain-sound =
-        let d : Drains (drained (s .l) rows) = drains (s .l) (omega arith) in
+        let d : Drains (drained (s .shape .l) rows) = drains (s .shape .l) (omega arith) in
         rw drain-is (record {
-          n-is = refl;
-          t-is = refl;
-          l-is = refl;
+          is-shape = refl;
           is-whole = facts-whole _ (record { limits-ok = f .limits-ok; hand-lt = f .hand-lt; lined = d .lined; tracked = f .tracked });
-          right = lengths-right (s .n) (s .l) _ _ (bytes-right (s .n) (s .l) bytes memory len) (d .memory-long ∙ memory-right (s .n) (s .l) bytes memory len);
+          right = lengths-right (s .shape) _ _ (bytes-right (s .shape) bytes memory len) (d .memory-long ∙ memory-right (s .shape) bytes memory len);
         })
 
   pub drain-busy : allIdle s ≡ false → drain s bytes memory ≡ refused 7 s bytes memory
   unfolding drain refusal unless
   drain-busy e = rw (drainNo-is, e)
 
-  pub drain-kept : Sound (s .n) (s .t) (s .l) (drain s bytes memory)
+  pub drain-kept : Sound (s .shape) (drain s bytes memory)
   drain-kept = ⊎-elim (λ e. drain-sound e) (λ e. rw (drain-busy e) (refused-sound 7)) (true-or-false (allIdle s))

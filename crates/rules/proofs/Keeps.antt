@@ -11,6 +11,7 @@ use lib.ListN.{length, getD, set, length-set, replicate, length-replicate}
 use lib.Seq.{getD-set-same, getD-set-other}
 use borrow.Author.Tests.{le-ltb}
 use Rattle.geometry.proofs.Places.{leafOf-lt, mapBlockOf-lt, mapBlocks-most}
+use Rattle.geometry.specs.declared.Shape.{Shape}
 use Rattle.geometry.specs.TagMemory.{groups, blocks, leafOf, byteOf}
 use Rattle.laws.specs.Choice.{pick}
 use Rattle.laws.specs.Bytes.{bytes}
@@ -25,7 +26,7 @@ use Rattle.tracker.specs.declared.Phase.the-variants.{Idle, Probe, Map, Leaf, S
 use Rattle.tracker.specs.declared.Tracker.{Tracker}
 use Rattle.tracker.specs.Tracker.{idle, isIdle, isIdleAt, holdsAt, goesTo, counted}
 use Rattle.tracker.specs.Answer.{Said, ok, wait, moved, read, done, same, no as refusal}
-use Rattle.line.specs.Word.{used, blockOf, holder, held, heldBy, word}
+use Rattle.line.specs.Word.{used, blockOf, holder, held, heldBy, word, lineBlocks, marks}
 use Rattle.line.specs.Find.{lineOf}
 use Rattle.rules.specs.State.{Rows, trackerAt}
 use Rattle.rules.specs.Whole.{limits, mapBlock, phaseWhole}
@@ -35,7 +36,7 @@ use Rattle.line.proofs.Words.{blockOf-word, free-used, holder-word, used-word}
 use Rattle.rules.proofs.Words.{blockOf-heldBy, holder-free, holder-heldBy, loose-holder, used-heldBy}
 use Rattle.rules.proofs.Lined.{at, Has, Held, Lined, low, lineOf-is, lineOf-has, lineOf-none, loose-lined, held-lined, let-go-lined, same-holds}
 use Rattle.rules.proofs.Whole.{heldOf, heldOf-yes, heldOf-no, heldOf-is, Tracked, n-most, t-most, l-least}
-use Rattle.rules.proofs.Placed.{Brings, brings, place-loose, place-hand, place-memory-length, fill-lined, fill-keeps}
+use Rattle.rules.proofs.Placed.{Shaped, unmoved, moved-to, Brings, brings, place-loose, place-hand, place-memory-length, fill-lined, fill-keeps}
 use Rattle.rules.proofs.Ways.{probe-miss, probe-read, probe-same, probe-other, map-read, map-same, map-create, map-hold, map-wait, map-on, leafRead-is, write1-same, write1-put, write0-same, write0-line, write0-place, leafWrite-0, leafWrite-1, bytesWith, putIn-empty, putIn-done, inLine-is}
 
 -- it is a refusal
@@ -49,11 +50,11 @@ isNo (same k) = false
 isNo (refusal c) = true
 
 -- what a rule leaves, for tracker x of ts
-pub record Keeps (n l t x : ℕ) (ts : List Tracker) (r : Rows) (o : Turned) : Type 0 where
+pub record Keeps (shape : Shape) (x : ℕ) (ts : List Tracker) (r : Rows) (o : Turned) : Type 0 where
   pub says : isNo (o .said) ≡ false
-  pub hand-lt : o .hand < l
-  pub lined : Lined (blocks n) l t (heldOf n (set ts x (o .tracker))) (o .rows .lines)
-  pub tracked : Tracked n t (set ts x (o .tracker))
+  pub shaped : Shaped shape (o .shape)
+  pub lined : Lined (blocks (shape .n)) (shape .l) (shape .t) (heldOf (shape .n) (set ts x (o .tracker))) (o .rows .lines)
+  pub tracked : Tracked (shape .n) (shape .t) (set ts x (o .tracker))
   pub lines-long : length (o .rows .lines) ≡ length (r .lines)
   pub bytes-long : length (o .rows .bytes) ≡ length (r .bytes)
   pub memory-long : length (o .rows .memory) ≡ length (r .memory)
@@ -99,18 +100,18 @@ putBit-length m a k v = go (ltb k 8)
     go true = length-set m a (withBit (getD m a 0) k v)
     go false = refl
 
-module _ (n t l : ℕ) (lim : limits n t l ≡ true) where
-  pub blocks-small : blocks n < 16777215
-  blocks-small = omega (arith, n-most n t l lim, mapBlocks-most n)
+module _ (shape : Shape) (lim : limits shape ≡ true) where
+  pub blocks-small : blocks (shape .n) < lineBlocks
+  blocks-small = omega (arith, n-most shape lim, mapBlocks-most (shape .n))
 
-  pub leaf-lt : (g : ℕ) → g < groups n → leafOf g < n
-  leaf-lt g q = leafOf-lt n g q
+  pub leaf-lt : (g : ℕ) → g < groups (shape .n) → leafOf g < shape .n
+  leaf-lt g q = leafOf-lt (shape .n) g q
 
-  pub leaf-block : (g : ℕ) → g < groups n → leafOf g < blocks n
-  leaf-block g q = omega (arith, leafOf-lt n g q)
+  pub leaf-block : (g : ℕ) → g < groups (shape .n) → leafOf g < blocks (shape .n)
+  leaf-block g q = omega (arith, leafOf-lt (shape .n) g q)
 
-  pub map-block : (g : ℕ) → g < groups n → mapBlock n g < blocks n
-  map-block g q = omega (arith, mapBlockOf-lt n (leafOf g) (leafOf-lt n g q))
+  pub map-block : (g : ℕ) → g < groups (shape .n) → mapBlock (shape .n) g < blocks (shape .n)
+  map-block g q = omega (arith, mapBlockOf-lt (shape .n) (leafOf g) (leafOf-lt (shape .n) g q))
 
 -- a line that has a leaf is held by nobody: map blocks come after the leaves
 pub leaf-loose : {B l t : ℕ} (n : ℕ) (ts : List Tracker) {lines : List ℕ} → Lined B l t (heldOf n ts) lines → (i b : ℕ) → Has lines i b → b < n → holder (at lines i) ≡ 0
@@ -120,37 +121,34 @@ leaf-loose n ts {lines} v i b h q = go (ℕ-discrete (holder (at lines i)) 0)
     go (yes e) = e
     go (no e) = absurd (let r = v .named i b h (omega arith) in let m = heldOf-is n ts _ b (r .1) in let z = m .1 in omega arith)
 
--- what a step finds, whole: n leaves, t trackers and l lines in their limits, the hand, the trackers, the rows; and the busy tracker that steps, x, which is u
+-- what a step finds, whole: the shape, in its limits and its hand at a line, the trackers, the rows; and the busy tracker that steps, x, which is u
 pub record Situation : Type 0 where
-  pub n : ℕ
-  pub t : ℕ
-  pub l : ℕ
-  pub hand : ℕ
+  pub shape : Shape
   pub x : ℕ
   pub ts : List Tracker
   pub r : Rows
   pub u : Tracker
-  pub limits-ok : limits n t l ≡ true
-  pub lined : Lined (blocks n) l t (heldOf n ts) (r .lines)
-  pub tracked : Tracked n t ts
-  pub x-lt : x < t
-  pub hand-lt : hand < l
-  pub rows-fit : rowsFit l (r .lines) (r .bytes) ≡ true
+  pub limits-ok : limits shape ≡ true
+  pub lined : Lined (blocks (shape .n)) (shape .l) (shape .t) (heldOf (shape .n) ts) (r .lines)
+  pub tracked : Tracked (shape .n) (shape .t) ts
+  pub x-lt : x < shape .t
+  pub hand-lt : shape .hand < shape .l
+  pub rows-fit : rowsFit (shape .l) (r .lines) (r .bytes) ≡ true
   pub is-u : trackerAt ts x ≡ u
   pub busy : isIdle u ≡ false
 
 module _ (sit : Situation) where
+  abbrev shape : Shape
+  shape = sit .shape
+
   abbrev n : ℕ
-  n = sit .n
+  n = shape .n
 
   abbrev t : ℕ
-  t = sit .t
+  t = shape .t
 
   abbrev l : ℕ
-  l = sit .l
-
-  abbrev hand : ℕ
-  hand = sit .hand
+  l = shape .l
 
   abbrev x : ℕ
   x = sit .x
@@ -174,10 +172,10 @@ module _ (sit : Situation) where
   phase-was = subst (λ (z : Tracker). phaseWhole (z .write) (z .bottom) (z .phase) ≡ true) (sit .is-u) (sit .tracked .phase-ok x)
 
   leaf-of-lt : leafOf (u .group) < n
-  leaf-of-lt = leaf-lt n t l (sit .limits-ok) (u .group) group-ok
+  leaf-of-lt = leaf-lt shape (sit .limits-ok) (u .group) group-ok
 
   few : t < l
-  few = omega (arith, l-least n t l (sit .limits-ok))
+  few = omega (arith, l-least shape (sit .limits-ok))
 
   -- what is held by x before and after
   was-held : holdsAt (u .phase) ≡ true → heldOf n ts x ≡ suc (mapBlock n (u .group))
@@ -208,15 +206,15 @@ module _ (sit : Situation) where
   stays : {ls : List ℕ} → holdsAt (u .phase) ≡ true → (u' : Tracker) → holdsAt (u' .phase) ≡ true → u' .group ≡ u .group → Lined (blocks n) l t (heldOf n ts) ls → Lined (blocks n) l t (heldOf n (set ts x u')) ls
   stays h u' h' e w = same-holds w (by-case u' (now-held u' h' ∙ ap (λ (g : ℕ). suc (mapBlock n g)) e ∙ sym (was-held h)))
 
-  small : blocks n < 16777215
-  small = blocks-small n t l (sit .limits-ok)
+  small : blocks n < lineBlocks
+  small = blocks-small shape (sit .limits-ok)
 
   -- a tracker comes to hold its map block, which is in line i
   comes-to-hold : {ls : List ℕ} (i : ℕ) → Lined (blocks n) l t (heldOf n ts) ls → Has ls i (mapBlock n (u .group)) → holder (at ls i) ≡ 0 → holdsAt (u .phase) ≡ false
       → Lined (blocks n) l t (heldOf n (set ts x (goesTo u Leaf))) (held-by ls i x)
   comes-to-hold {ls} i w h z f =
-      let bl : blockOf (at ls i) < 16777215 = rw (h .is-block) (omega (arith, small, w .exists i _ h)) in
-      let x1 : x + 1 < 128 = omega (arith, t-most n t l (sit .limits-ok)) in
+      let bl : blockOf (at ls i) < lineBlocks = rw (h .is-block) (omega (arith, small, w .exists i _ h)) in
+      let x1 : x + 1 < marks = omega (arith, t-most shape (sit .limits-ok)) in
       held-lined w i (heldBy (at ls i) (x + 1)) (low w i _ h) (heldOf n (set ts x (goesTo u Leaf))) x (sit .x-lt) (λ y q. heldOf-other n ts x y (goesTo u Leaf) q)
       (mapBlock n (u .group)) h (used-heldBy (at ls i) (x + 1) bl x1) (blockOf-heldBy (at ls i) (x + 1) bl x1 ∙ h .is-block) z (holder-heldBy (at ls i) (x + 1) bl x1)
       (was-free f) (now-held (goesTo u Leaf) refl)
@@ -232,7 +230,7 @@ module _ (sit : Situation) where
   lets-go-word : {ls : List ℕ} (j : ℕ) → Lined (blocks n) l t (heldOf n ts) ls → Has ls j (mapBlock n (u .group)) → holder (at ls j) ≡ x + 1
       → Lined (blocks n) l t (heldOf n (set ts x idle)) (letGo ls j)
   lets-go-word {ls} j w h z =
-      let bl : blockOf (at ls j) < 16777215 = rw (h .is-block) (omega (arith, small, w .exists j _ h)) in
+      let bl : blockOf (at ls j) < lineBlocks = rw (h .is-block) (omega (arith, small, w .exists j _ h)) in
       lets-go j (heldBy (at ls j) 0) w h z (used-heldBy (at ls j) 0 bl (omega arith)) (blockOf-heldBy (at ls j) 0 bl (omega arith) ∙ h .is-block) (holder-heldBy (at ls j) 0 bl (omega arith))
 
   idle-tracked : Tracked n t (set ts x idle)
@@ -242,45 +240,45 @@ module _ (sit : Situation) where
   goes-tracked p e = tracked-set n t ts x (goesTo u p) (sit .tracked) (sit .x-lt) (λ _. group-ok) e
 
   -- a step that changes no row and ends, or goes on to Map, from a phase that holds nothing
-  ends-here : (a : Said) → isNo a ≡ false → holdsAt (u .phase) ≡ false → Keeps n l t x ts r (ends a hand r)
-  ends-here a s h = record { says = s; hand-lt = sit .hand-lt; lined = quiet h idle refl (sit .lined); tracked = idle-tracked; lines-long = refl; bytes-long = refl; memory-long = refl }
+  ends-here : (a : Said) → isNo a ≡ false → holdsAt (u .phase) ≡ false → Keeps shape x ts r (ends a shape r)
+  ends-here a s h = record { says = s; shaped = unmoved (sit .hand-lt); lined = quiet h idle refl (sit .lined); tracked = idle-tracked; lines-long = refl; bytes-long = refl; memory-long = refl }
 
-  to-map : holdsAt (u .phase) ≡ false → Keeps n l t x ts r (goes u Map hand r)
-  to-map h = record { says = refl; hand-lt = sit .hand-lt; lined = quiet h (goesTo u Map) refl (sit .lined); tracked = goes-tracked Map refl; lines-long = refl; bytes-long = refl; memory-long = refl }
+  to-map : holdsAt (u .phase) ≡ false → Keeps shape x ts r (goes u Map shape r)
+  to-map h = record { says = refl; shaped = unmoved (sit .hand-lt); lined = quiet h (goesTo u Map) refl (sit .lined); tracked = goes-tracked Map refl; lines-long = refl; bytes-long = refl; memory-long = refl }
 
-  pub keeps-probe : u .phase ≡ Probe → Keeps n l t x ts r (probe l hand u r)
+  pub keeps-probe : u .phase ≡ Probe → Keeps shape x ts r (probe shape u r)
   keeps-probe e = go (lt-or-ge (lineOf (r .lines) l (leafOf (u .group))) l) (true-or-false (u .write))
     where
       h : holdsAt (u .phase) ≡ false
       h = rw e
 
-      go : (lineOf (r .lines) l (leafOf (u .group)) < l) ⊎ (l ≤ lineOf (r .lines) l (leafOf (u .group))) → (u .write ≡ true) ⊎ (u .write ≡ false) → Keeps n l t x ts r (probe l hand u r)
-      go (inr q) w = rw (probe-miss l hand u r q) (to-map h)
-      go (inl q) (inr w) = rw (probe-read l hand u r q w) (ends-here _ refl h)
+      go : (lineOf (r .lines) l (leafOf (u .group)) < l) ⊎ (l ≤ lineOf (r .lines) l (leafOf (u .group))) → (u .write ≡ true) ⊎ (u .write ≡ false) → Keeps shape x ts r (probe shape u r)
+      go (inr q) w = rw (probe-miss shape u r q) (to-map h)
+      go (inl q) (inr w) = rw (probe-read shape u r q w) (ends-here _ refl h)
       go (inl q) (inl w) = eqs (ℕ-discrete (groupIn (r .bytes) (lineOf (r .lines) l (leafOf (u .group))) (u .group)) (u .value))
         where
-          eqs : Dec (groupIn (r .bytes) (lineOf (r .lines) l (leafOf (u .group))) (u .group) ≡ u .value) → Keeps n l t x ts r (probe l hand u r)
-          eqs (yes d) = rw (probe-same l hand u r q w d) (ends-here _ refl h)
-          eqs (no d) = rw (probe-other l hand u r q w d) (to-map h)
+          eqs : Dec (groupIn (r .bytes) (lineOf (r .lines) l (leafOf (u .group))) (u .group) ≡ u .value) → Keeps shape x ts r (probe shape u r)
+          eqs (yes d) = rw (probe-same shape u r q w d) (ends-here _ refl h)
+          eqs (no d) = rw (probe-other shape u r q w d) (to-map h)
 
   -- the map block is brought in, held by nobody
-  map-brings : Brings (blocks n) l t (heldOf n ts) r (mapBlock n (u .group)) (bringIn l hand (mapBlock n (u .group)) r)
-  map-brings = brings r hand (mapBlock n (u .group)) (sit .lined) few (sit .rows-fit) (sit .hand-lt) (map-block n t l (sit .limits-ok) (u .group) group-ok) small
+  map-brings : Brings shape (blocks n) (heldOf n ts) r (mapBlock n (u .group)) (bringIn shape (mapBlock n (u .group)) r)
+  map-brings = brings shape r (mapBlock n (u .group)) (sit .lined) few (sit .rows-fit) (sit .hand-lt) (map-block shape (sit .limits-ok) (u .group) group-ok) small
 
-  leaf-brings : Brings (blocks n) l t (heldOf n ts) r (leafOf (u .group)) (bringIn l hand (leafOf (u .group)) r)
-  leaf-brings = brings r hand (leafOf (u .group)) (sit .lined) few (sit .rows-fit) (sit .hand-lt) (leaf-block n t l (sit .limits-ok) (u .group) group-ok) small
+  leaf-brings : Brings shape (blocks n) (heldOf n ts) r (leafOf (u .group)) (bringIn shape (leafOf (u .group)) r)
+  leaf-brings = brings shape r (leafOf (u .group)) (sit .lined) few (sit .rows-fit) (sit .hand-lt) (leaf-block shape (sit .limits-ok) (u .group) group-ok) small
 
-  module _ (m : u .phase ≡ Map) (b : Brought) (f : Brings (blocks n) l t (heldOf n ts) r (mapBlock n (u .group)) b) (z : holder (at (b .rows .lines) (b .line)) ≡ 0) where
+  module _ (m : u .phase ≡ Map) (b : Brought) (f : Brings shape (blocks n) (heldOf n ts) r (mapBlock n (u .group)) b) (z : holder (at (b .rows .lines) (b .line)) ≡ 0) where
     map-free : holdsAt (u .phase) ≡ false
     map-free = rw m
 
-    map-ends : (a : Said) → isNo a ≡ false → Keeps n l t x ts r (ends a (b .hand) (b .rows))
-    map-ends a s = record { says = s; hand-lt = f .hand-lt; lined = quiet map-free idle refl (f .lined); tracked = idle-tracked; lines-long = f .lines-long; bytes-long = f .bytes-long; memory-long = f .memory-long }
+    map-ends : (a : Said) → isNo a ≡ false → Keeps shape x ts r (ends a (b .shape) (b .rows))
+    map-ends a s = record { says = s; shaped = f .shaped; lined = quiet map-free idle refl (f .lined); tracked = idle-tracked; lines-long = f .lines-long; bytes-long = f .bytes-long; memory-long = f .memory-long }
 
-    map-holds : Keeps n l t x ts r (holdsMap x u b)
+    map-holds : Keeps shape x ts r (holdsMap x u b)
     map-holds = record {
       says = refl;
-      hand-lt = f .hand-lt;
+      shaped = f .shaped;
       lined = comes-to-hold (b .line) (f .lined) (f .has-it) z map-free;
       tracked = goes-tracked Leaf refl;
       lines-long = simp length-set (f .lines-long);
@@ -288,22 +286,22 @@ module _ (sit : Situation) where
       memory-long = f .memory-long;
     }
 
-    keeps-onMap : Keeps n l t x ts r (onMap x u b)
+    keeps-onMap : Keeps shape x ts r (onMap x u b)
     keeps-onMap = go (ℕ-discrete (bitIn (b .rows .bytes) (b .line) (u .group)) 0) (true-or-false (u .write)) (ℕ-discrete (u .value) 0)
       where
-        go : Dec (bitIn (b .rows .bytes) (b .line) (u .group) ≡ 0) → (u .write ≡ true) ⊎ (u .write ≡ false) → Dec (u .value ≡ 0) → Keeps n l t x ts r (onMap x u b)
+        go : Dec (bitIn (b .rows .bytes) (b .line) (u .group) ≡ 0) → (u .write ≡ true) ⊎ (u .write ≡ false) → Dec (u .value ≡ 0) → Keeps shape x ts r (onMap x u b)
         go (no d) w e = rw (map-hold x u b d) map-holds
         go (yes d) (inr w) e = rw (map-read x u b d w) (map-ends _ refl)
         go (yes d) (inl w) (yes e) = rw (map-same x u b d w e) (map-ends _ refl)
         go (yes d) (inl w) (no e) = rw (map-create x u b d w e) map-holds
 
-  pub keeps-map : u .phase ≡ Map → Keeps n l t x ts r (map n l hand x u r)
+  pub keeps-map : u .phase ≡ Map → Keeps shape x ts r (map shape x u r)
   keeps-map m = go (lt-or-ge (lineOf (r .lines) l (mapBlock n (u .group))) l) (true-or-false (held (at (r .lines) (lineOf (r .lines) l (mapBlock n (u .group))))))
     where
-      waits-ok : Keeps n l t x ts r (waits u hand r)
+      waits-ok : Keeps shape x ts r (waits u shape r)
       waits-ok = record {
         says = refl;
-        hand-lt = sit .hand-lt;
+        shaped = unmoved (sit .hand-lt);
         lined = quiet (rw m) (counted u) (rw m) (sit .lined);
         tracked = goes-tracked (u .phase) phase-was;
         lines-long = refl;
@@ -313,11 +311,11 @@ module _ (sit : Situation) where
 
       go : (lineOf (r .lines) l (mapBlock n (u .group)) < l) ⊎ (l ≤ lineOf (r .lines) l (mapBlock n (u .group)))
           → (held (at (r .lines) (lineOf (r .lines) l (mapBlock n (u .group)))) ≡ true) ⊎ (held (at (r .lines) (lineOf (r .lines) l (mapBlock n (u .group)))) ≡ false)
-          → Keeps n l t x ts r (map n l hand x u r)
-      go (inl q) (inl h) = rw (map-wait n l hand x u r q h) waits-ok
-      go (inl q) (inr h) = rw (map-on n l hand x u r (both-false-right _ _ h) (map-brings .line-lt))
+          → Keeps shape x ts r (map shape x u r)
+      go (inl q) (inl h) = rw (map-wait shape x u r q h) waits-ok
+      go (inl q) (inr h) = rw (map-on shape x u r (both-false-right _ _ h) (map-brings .line-lt))
           (keeps-onMap m _ map-brings (map-brings .loose (λ _. loose-holder _ h)))
-      go (inr q) h = rw (map-on n l hand x u r (both-false-left _ _ (le-ltb _ _ q)) (map-brings .line-lt))
+      go (inr q) h = rw (map-on shape x u r (both-false-left _ _ (le-ltb _ _ q)) (map-brings .line-lt))
           (keeps-onMap m _ map-brings (map-brings .loose (λ p. absurd (omega arith))))
 
   -- from here on the tracker holds its map block, which is in line j
@@ -354,14 +352,14 @@ module _ (sit : Situation) where
     j-held : 0 < holder (at (r .lines) j)
     j-held = rw j-holder (omega arith)
 
-    leaf-line-loose : holder (at (bringIn l hand (leafOf (u .group)) r .rows .lines) (bringIn l hand (leafOf (u .group)) r .line)) ≡ 0
+    leaf-line-loose : holder (at (bringIn shape (leafOf (u .group)) r .rows .lines) (bringIn shape (leafOf (u .group)) r .line)) ≡ 0
     leaf-line-loose = leaf-loose n ts (leaf-brings .lined) _ _ (leaf-brings .has-it) leaf-of-lt
 
     -- after the leaf was brought in: ends and lets go
-    leaf-ends : (a : Said) → isNo a ≡ false → Keeps n l t x ts r (let b = bringIn l hand (leafOf (u .group)) r in ends a (b .hand) (withLines (b .rows) (letGo (b .rows .lines) j)))
+    leaf-ends : (a : Said) → isNo a ≡ false → Keeps shape x ts r (let b = bringIn shape (leafOf (u .group)) r in ends a (b .shape) (withLines (b .rows) (letGo (b .rows .lines) j)))
     leaf-ends a s = record {
       says = s;
-      hand-lt = leaf-brings .hand-lt;
+      shaped = leaf-brings .shaped;
       lined = gone (leaf-brings .lined) (leaf-brings .keeps j j-held);
       tracked = idle-tracked;
       lines-long = simp length-set (leaf-brings .lines-long);
@@ -369,10 +367,10 @@ module _ (sit : Situation) where
       memory-long = leaf-brings .memory-long;
     }
 
-    keeps-leafRead : Keeps n l t x ts r (leafRead l hand j u r)
-    keeps-leafRead = rw (leafRead-is l hand j u r (leaf-brings .line-lt)) (leaf-ends _ refl)
+    keeps-leafRead : Keeps shape x ts r (leafRead shape j u r)
+    keeps-leafRead = rw (leafRead-is shape j u r (leaf-brings .line-lt)) (leaf-ends _ refl)
 
-    put-length : length (bytesWith u (bringIn l hand (leafOf (u .group)) r)) ≡ length (r .bytes)
+    put-length : length (bytesWith u (bringIn shape (leafOf (u .group)) r)) ≡ length (r .bytes)
     put-length = length-putW 4 _ _ (bytes 4 (u .value)) (length-bytes 4 (u .value)) ∙ leaf-brings .bytes-long
 
     same-map : u .write ≡ true → (p : Phase) → holdsAt p ≡ true → phaseWhole (u .write) (u .bottom) p ≡ true
@@ -384,14 +382,14 @@ module _ (sit : Situation) where
     same-map w Clear e = w
 
     module _ (wr : u .write ≡ true) where
-      keeps-putIn : Keeps n l t x ts r (putIn j u (bringIn l hand (leafOf (u .group)) r))
+      keeps-putIn : Keeps shape x ts r (putIn j u (bringIn shape (leafOf (u .group)) r))
       keeps-putIn = go (true-or-false (allZero (lineBytes (bytesWith u b) (b .line))))
         where
           b : Brought
-          b = bringIn l hand (leafOf (u .group)) r
+          b = bringIn shape (leafOf (u .group)) r
 
           bl : leafOf (u .group) < blocks n
-          bl = leaf-block n t l (sit .limits-ok) (u .group) group-ok
+          bl = leaf-block shape (sit .limits-ok) (u .group) group-ok
 
           alone : (i : ℕ) → (i ≡ b .line → ⊥) → Has (b .rows .lines) i (leafOf (u .group)) → ⊥
           alone i q e = q (leaf-brings .lined .one i (b .line) (leafOf (u .group)) e (leaf-brings .has-it))
@@ -406,10 +404,10 @@ module _ (sit : Situation) where
           still = fill-keeps (leaf-brings .lined) (b .line) (leafOf (u .group)) (leaf-brings .line-lt) leaf-line-loose bl small alone true j
               (subst (λ (w : ℕ). 0 < holder w) (sym (leaf-brings .keeps j j-held)) j-held) ∙ leaf-brings .keeps j j-held
 
-          go : (allZero (lineBytes (bytesWith u b) (b .line)) ≡ true) ⊎ (allZero (lineBytes (bytesWith u b) (b .line)) ≡ false) → Keeps n l t x ts r (putIn j u b)
+          go : (allZero (lineBytes (bytesWith u b) (b .line)) ≡ true) ⊎ (allZero (lineBytes (bytesWith u b) (b .line)) ≡ false) → Keeps shape x ts r (putIn j u b)
           go (inl z) = rw (putIn-empty j u b z) (record {
             says = refl;
-            hand-lt = leaf-brings .hand-lt;
+            shaped = leaf-brings .shaped;
             lined = stays h (goesTo u Clear) refl refl freed;
             tracked = goes-tracked Clear (same-map wr Clear refl);
             lines-long = simp length-set (leaf-brings .lines-long);
@@ -418,7 +416,7 @@ module _ (sit : Situation) where
           })
           go (inr z) = rw (putIn-done j u b z) (record {
             says = refl;
-            hand-lt = leaf-brings .hand-lt;
+            shaped = leaf-brings .shaped;
             lined = gone changed-line still;
             tracked = idle-tracked;
             lines-long = simp length-set (leaf-brings .lines-long);
@@ -426,29 +424,29 @@ module _ (sit : Situation) where
             memory-long = leaf-brings .memory-long;
           })
 
-      keeps-write1 : Keeps n l t x ts r (writeUnder1 l hand j u r)
+      keeps-write1 : Keeps shape x ts r (writeUnder1 shape j u r)
       keeps-write1 = go (ℕ-discrete (groupIn (b .rows .bytes) (b .line) (u .group)) (u .value))
         where
           b : Brought
-          b = bringIn l hand (leafOf (u .group)) r
+          b = bringIn shape (leafOf (u .group)) r
 
-          go : Dec (groupIn (b .rows .bytes) (b .line) (u .group) ≡ u .value) → Keeps n l t x ts r (writeUnder1 l hand j u r)
-          go (yes e) = rw (write1-same l hand j u r (leaf-brings .line-lt) e) (leaf-ends _ refl)
-          go (no e) = rw (write1-put l hand j u r (leaf-brings .line-lt) e) keeps-putIn
+          go : Dec (groupIn (b .rows .bytes) (b .line) (u .group) ≡ u .value) → Keeps shape x ts r (writeUnder1 shape j u r)
+          go (yes e) = rw (write1-same shape j u r (leaf-brings .line-lt) e) (leaf-ends _ refl)
+          go (no e) = rw (write1-put shape j u r (leaf-brings .line-lt) e) keeps-putIn
 
-      keeps-write0 : Keeps n l t x ts r (writeUnder0 l hand j u r)
+      keeps-write0 : Keeps shape x ts r (writeUnder0 shape j u r)
       keeps-write0 = go (ℕ-discrete (u .value) 0) (lt-or-ge (lineOf (r .lines) l (leafOf (u .group))) l)
         where
           bl : leafOf (u .group) < blocks n
-          bl = leaf-block n t l (sit .limits-ok) (u .group) group-ok
+          bl = leaf-block shape (sit .limits-ok) (u .group) group-ok
 
           new-long : length (newLeaf u) ≡ 64
           new-long = length-putW 4 (replicate 64 0) (byteOf (u .group)) (bytes 4 (u .value)) (length-bytes 4 (u .value)) ∙ length-replicate {A = ℕ} 64 0
 
-          go : Dec (u .value ≡ 0) → (lineOf (r .lines) l (leafOf (u .group)) < l) ⊎ (l ≤ lineOf (r .lines) l (leafOf (u .group))) → Keeps n l t x ts r (writeUnder0 l hand j u r)
-          go (yes e) q = rw (write0-same l hand j u r e) (record {
+          go : Dec (u .value ≡ 0) → (lineOf (r .lines) l (leafOf (u .group)) < l) ⊎ (l ≤ lineOf (r .lines) l (leafOf (u .group))) → Keeps shape x ts r (writeUnder0 shape j u r)
+          go (yes e) q = rw (write0-same shape j u r e) (record {
             says = refl;
-            hand-lt = sit .hand-lt;
+            shaped = unmoved (sit .hand-lt);
             lined = gone (sit .lined) refl;
             tracked = idle-tracked;
             lines-long = simp length-set;
@@ -458,9 +456,9 @@ module _ (sit : Situation) where
           go (no e) (inl q) =
               let i = lineOf (r .lines) l (leafOf (u .group)) in
               let hi : Has (r .lines) i (leafOf (u .group)) = lineOf-has (r .lines) l (leafOf (u .group)) q in
-              rw (write0-line l hand j u r e q) (record {
+              rw (write0-line shape j u r e q) (record {
                 says = refl;
-                hand-lt = sit .hand-lt;
+                shaped = unmoved (sit .hand-lt);
                 lined = stays h (goesTo u Set) refl refl (fill-lined (sit .lined) i (leafOf (u .group)) q (leaf-loose n ts (sit .lined) i (leafOf (u .group)) hi leaf-of-lt) bl small
                     (λ y d f. d (sit .lined .one y i (leafOf (u .group)) f hi)) true);
                 tracked = goes-tracked Set (same-map wr Set refl);
@@ -469,33 +467,33 @@ module _ (sit : Situation) where
                 memory-long = refl;
               })
           go (no e) (inr q) =
-              let p = place-loose r hand (sit .lined) few (sit .rows-fit) in
-              rw (write0-place l hand j u r e q (p .0)) (record {
+              let p = place-loose shape r (sit .lined) few (sit .rows-fit) in
+              rw (write0-place shape j u r e q (p .0)) (record {
                 says = refl;
-                hand-lt = place-hand r hand (sit .lined) few (sit .rows-fit) (sit .hand-lt);
-                lined = stays h (goesTo u Set) refl refl (fill-lined (sit .lined) (placeLine l hand (r .lines) (r .bytes)) (leafOf (u .group)) (p .0) (p .1) bl small
+                shaped = moved-to (place-hand shape r (sit .lined) few (sit .rows-fit) (sit .hand-lt));
+                lined = stays h (goesTo u Set) refl refl (fill-lined (sit .lined) (placeLine shape (r .lines) (r .bytes)) (leafOf (u .group)) (p .0) (p .1) bl small
                     (λ y d f. lineOf-none (r .lines) l (leafOf (u .group)) y q (low (sit .lined) y (leafOf (u .group)) f) f) true);
                 tracked = goes-tracked Set (same-map wr Set refl);
                 lines-long = simp length-set;
-                bytes-long = length-putW 64 (r .bytes) (64 * placeLine l hand (r .lines) (r .bytes)) (newLeaf u) new-long;
-                memory-long = place-memory-length r hand (sit .lined) few (sit .rows-fit);
+                bytes-long = length-putW 64 (r .bytes) (64 * placeLine shape (r .lines) (r .bytes)) (newLeaf u) new-long;
+                memory-long = place-memory-length shape r (sit .lined) few (sit .rows-fit);
               })
 
-      keeps-leafWrite : Keeps n l t x ts r (leafWrite l hand j u r)
+      keeps-leafWrite : Keeps shape x ts r (leafWrite shape j u r)
       keeps-leafWrite = go (ℕ-discrete (bitIn (r .bytes) j (u .group)) 0)
         where
-          go : Dec (bitIn (r .bytes) j (u .group) ≡ 0) → Keeps n l t x ts r (leafWrite l hand j u r)
-          go (yes e) = rw (leafWrite-0 l hand j u r e) keeps-write0
-          go (no e) = rw (leafWrite-1 l hand j u r e) keeps-write1
+          go : Dec (bitIn (r .bytes) j (u .group) ≡ 0) → Keeps shape x ts r (leafWrite shape j u r)
+          go (yes e) = rw (leafWrite-0 shape j u r e) keeps-write0
+          go (no e) = rw (leafWrite-1 shape j u r e) keeps-write1
 
-    keeps-finish : (bit : ℕ) → Keeps n l t x ts r (finish n hand j bit u r)
+    keeps-finish : (bit : ℕ) → Keeps shape x ts r (finish shape j bit u r)
     unfolding finish
     keeps-finish bit =
         let m = mapBlock n (u .group) in
-        let ml : m < 16777215 = omega (arith, small, sit .lined .exists j m j-has) in
+        let ml : m < lineBlocks = omega (arith, small, sit .lined .exists j m j-has) in
         record {
           says = refl;
-          hand-lt = sit .hand-lt;
+          shaped = unmoved (sit .hand-lt);
           lined = lets-go j (word m true 0) (sit .lined) j-has j-holder (used-word m true 0 ml (omega arith)) (blockOf-word m true 0 ml (omega arith)) (holder-word m true 0 ml (omega arith));
           tracked = idle-tracked;
           lines-long = simp length-set;
@@ -503,17 +501,17 @@ module _ (sit : Situation) where
           memory-long = refl;
         }
 
-    keeps-leaf : Keeps n l t x ts r (holding n l hand j u r Leaf)
+    keeps-leaf : Keeps shape x ts r (holding shape j u r Leaf)
     keeps-leaf = go (true-or-false (u .write))
       where
-        go : (u .write ≡ true) ⊎ (u .write ≡ false) → Keeps n l t x ts r (holding n l hand j u r Leaf)
-        go (inl w) = subst (λ (c : Bool). Keeps n l t x ts r (pick c (leafWrite l hand j u r) (leafRead l hand j u r))) (sym w) (keeps-leafWrite w)
-        go (inr w) = subst (λ (c : Bool). Keeps n l t x ts r (pick c (leafWrite l hand j u r) (leafRead l hand j u r))) (sym w) keeps-leafRead
+        go : (u .write ≡ true) ⊎ (u .write ≡ false) → Keeps shape x ts r (holding shape j u r Leaf)
+        go (inl w) = subst (λ (c : Bool). Keeps shape x ts r (pick c (leafWrite shape j u r) (leafRead shape j u r))) (sym w) (keeps-leafWrite w)
+        go (inr w) = subst (λ (c : Bool). Keeps shape x ts r (pick c (leafWrite shape j u r) (leafRead shape j u r))) (sym w) keeps-leafRead
 
-    keeps-inLine : (p : Phase) → Keeps n l t x ts r (holding n l hand j u r p) → Keeps n l t x ts r (inLine n l hand u r p)
-    keeps-inLine p f = rw (inLine-is n l hand u r p j-lt) f
+    keeps-inLine : (p : Phase) → Keeps shape x ts r (holding shape j u r p) → Keeps shape x ts r (inLine shape u r p)
+    keeps-inLine p f = rw (inLine-is shape u r p j-lt) f
 
-  pub keeps-byPhase : (p : Phase) → u .phase ≡ p → Keeps n l t x ts r (byPhase n l hand x u r p)
+  pub keeps-byPhase : (p : Phase) → u .phase ≡ p → Keeps shape x ts r (byPhase shape x u r p)
   keeps-byPhase Idle e = absurd (not-both-ways (ap isIdleAt e) (sit .busy))
   keeps-byPhase Probe e = keeps-probe e
   keeps-byPhase Map e = keeps-map e

@@ -15,9 +15,11 @@ use Rattle.laws.proofs.Splice.{lt-or-ge}
 use Rattle.laws.proofs.Scan.{first-holds, first-before}
 use Rattle.laws.proofs.Put.{length-part, length-putW}
 use Rattle.laws.proofs.Pigeon.{pigeon}
+use Rattle.geometry.specs.declared.Shape.{Shape}
+use Rattle.geometry.specs.Shape.{atHand}
 use Rattle.geometry.specs.TagMemory.{blockPlace}
 use Rattle.block.specs.Block.{blockOr0}
-use Rattle.line.specs.Word.{used, blockOf, changed, holder, held, word}
+use Rattle.line.specs.Word.{used, blockOf, changed, holder, held, word, lineBlocks}
 use Rattle.line.specs.Find.{lineOf, lowestFree, looseFrom, victim, after}
 use Rattle.rules.specs.State.{Rows}
 use Rattle.rules.specs.Place.{lineBytes, rowsFit, placeLine, placeHand, writtenBack, placeMemory, Brought, filled, withMemory, bringIn}
@@ -86,45 +88,45 @@ unfolding after
 after-lt l i q = ⊎-elim (λ (p : i + 1 < l). rw (lt-ltb _ _ p) p) (λ (p : l ≤ i + 1). rw (le-ltb _ _ p) (omega arith)) (lt-or-ge (i + 1) l)
 
 -- a law for each way out of placing
-module _ (l hand : ℕ) (lines bytes : List ℕ) (fit : rowsFit l lines bytes ≡ true) where
-  pub place-free : lowestFree lines l < l → placeLine l hand lines bytes ≡ lowestFree lines l
+module _ (shape : Shape) (lines bytes : List ℕ) (fit : rowsFit (shape .l) lines bytes ≡ true) where
+  pub place-free : lowestFree lines (shape .l) < shape .l → placeLine shape lines bytes ≡ lowestFree lines (shape .l)
   unfolding placeLine
   place-free q = rw (fit, lt-ltb _ _ q)
 
-  pub place-victim : l ≤ lowestFree lines l → placeLine l hand lines bytes ≡ victim lines l hand
+  pub place-victim : shape .l ≤ lowestFree lines (shape .l) → placeLine shape lines bytes ≡ victim lines (shape .l) (shape .hand)
   unfolding placeLine
   place-victim q = rw (fit, le-ltb _ _ q)
 
-  pub hand-free : lowestFree lines l < l → placeHand l hand lines bytes ≡ hand
+  pub hand-free : lowestFree lines (shape .l) < shape .l → placeHand shape lines bytes ≡ shape .hand
   unfolding placeHand both
   hand-free q = rw (fit, lt-leb _ _ q)
 
-  pub hand-victim : l ≤ lowestFree lines l → victim lines l hand < l → placeHand l hand lines bytes ≡ after l (victim lines l hand)
+  pub hand-victim : shape .l ≤ lowestFree lines (shape .l) → victim lines (shape .l) (shape .hand) < shape .l → placeHand shape lines bytes ≡ after (shape .l) (victim lines (shape .l) (shape .hand))
   unfolding placeHand both
   hand-victim q p = rw (fit, le-leb _ _ q, lt-ltb _ _ p)
 
-module _ {B l t : ℕ} {H : ℕ → ℕ} (r : Rows) (hand : ℕ) (v : Lined B l t H (r .lines)) (few : t < l) (fit : rowsFit l (r .lines) (r .bytes) ≡ true) where
+module _ (shape : Shape) {B : ℕ} {H : ℕ → ℕ} (r : Rows) (v : Lined B (shape .l) (shape .t) H (r .lines)) (few : shape .t < shape .l) (fit : rowsFit (shape .l) (r .lines) (r .bytes) ≡ true) where
   -- placing takes a line that nobody holds
-  pub place-loose : (placeLine l hand (r .lines) (r .bytes) < l) × (holder (at (r .lines) (placeLine l hand (r .lines) (r .bytes))) ≡ 0)
-  place-loose = go (lt-or-ge (lowestFree (r .lines) l) l)
+  pub place-loose : (placeLine shape (r .lines) (r .bytes) < shape .l) × (holder (at (r .lines) (placeLine shape (r .lines) (r .bytes))) ≡ 0)
+  place-loose = go (lt-or-ge (lowestFree (r .lines) (shape .l)) (shape .l))
     where
-      go : (lowestFree (r .lines) l < l) ⊎ (l ≤ lowestFree (r .lines) l)
-          → (placeLine l hand (r .lines) (r .bytes) < l) × (holder (at (r .lines) (placeLine l hand (r .lines) (r .bytes))) ≡ 0)
-      go (inl q) = rw (place-free l hand (r .lines) (r .bytes) fit q) (q, ap holder (free-test (r .lines) l q) ∙ holder-free)
-      go (inr q) = rw (place-victim l hand (r .lines) (r .bytes) fit q) (victim-loose v few hand)
+      go : (lowestFree (r .lines) (shape .l) < shape .l) ⊎ (shape .l ≤ lowestFree (r .lines) (shape .l))
+          → (placeLine shape (r .lines) (r .bytes) < shape .l) × (holder (at (r .lines) (placeLine shape (r .lines) (r .bytes))) ≡ 0)
+      go (inl q) = rw (place-free shape (r .lines) (r .bytes) fit q) (q, ap holder (free-test (r .lines) (shape .l) q) ∙ holder-free)
+      go (inr q) = rw (place-victim shape (r .lines) (r .bytes) fit q) (victim-loose v few (shape .hand))
 
-  pub place-hand : hand < l → placeHand l hand (r .lines) (r .bytes) < l
-  place-hand h = go (lt-or-ge (lowestFree (r .lines) l) l)
+  pub place-hand : shape .hand < shape .l → placeHand shape (r .lines) (r .bytes) < shape .l
+  place-hand h = go (lt-or-ge (lowestFree (r .lines) (shape .l)) (shape .l))
     where
-      go : (lowestFree (r .lines) l < l) ⊎ (l ≤ lowestFree (r .lines) l) → placeHand l hand (r .lines) (r .bytes) < l
-      go (inl q) = rw (hand-free l hand (r .lines) (r .bytes) fit q) h
-      go (inr q) = rw (hand-victim l hand (r .lines) (r .bytes) fit q (victim-loose v few hand .0)) (after-lt l _ (victim-loose v few hand .0))
+      go : (lowestFree (r .lines) (shape .l) < shape .l) ⊎ (shape .l ≤ lowestFree (r .lines) (shape .l)) → placeHand shape (r .lines) (r .bytes) < shape .l
+      go (inl q) = rw (hand-free shape (r .lines) (r .bytes) fit q) h
+      go (inr q) = rw (hand-victim shape (r .lines) (r .bytes) fit q (victim-loose v few (shape .hand) .0)) (after-lt (shape .l) _ (victim-loose v few (shape .hand) .0))
 
-  bytes-long : length (r .bytes) ≡ 64 * l
+  bytes-long : length (r .bytes) ≡ 64 * shape .l
   unfolding rowsFit
   bytes-long = eqb-true _ _ (both-right _ _ fit)
 
-  pub written-length : (i : ℕ) → i < l → length (writtenBack (r .lines) (r .bytes) (r .memory) i) ≡ length (r .memory)
+  pub written-length : (i : ℕ) → i < shape .l → length (writtenBack (r .lines) (r .bytes) (r .memory) i) ≡ length (r .memory)
   unfolding writtenBack
   written-length i q = go (changed (getD (r .lines) i 0))
     where
@@ -132,11 +134,11 @@ module _ {B l t : ℕ} {H : ℕ → ℕ} (r : Rows) (hand : ℕ) (v : Lined B l 
       go true = length-putW 64 (r .memory) _ (lineBytes (r .bytes) i) (length-part (r .bytes) (64 * i) 64 (omega (arith, bytes-long)))
       go false = refl
 
-  pub place-memory : placeMemory l hand r ≡ writtenBack (r .lines) (r .bytes) (r .memory) (placeLine l hand (r .lines) (r .bytes))
+  pub place-memory : placeMemory shape r ≡ writtenBack (r .lines) (r .bytes) (r .memory) (placeLine shape (r .lines) (r .bytes))
   unfolding placeMemory
   place-memory = rw (lt-ltb _ _ (place-loose .0))
 
-  pub place-memory-length : length (placeMemory l hand r) ≡ length (r .memory)
+  pub place-memory-length : length (placeMemory shape r) ≡ length (r .memory)
   place-memory-length = ap length place-memory ∙ written-length _ (place-loose .0)
 
 pub blockOr0-length : (m : List ℕ) (a : ℕ) → length (blockOr0 m a) ≡ 64
@@ -146,8 +148,8 @@ blockOr0-length m a = ⊎-elim (λ (q : length m < a + 64). rw (lt-leb _ _ q) (l
 
 -- block b goes into line i, which nobody holds and which has it already or no other line does
 module _ {B l t : ℕ} {H : ℕ → ℕ} {lines : List ℕ} (v : Lined B l t H lines) (i b : ℕ) (il : i < l) (z : holder (at lines i) ≡ 0)
-    (bl : b < B) (small : B < 16777215) (alone : (j : ℕ) → (j ≡ i → ⊥) → Has lines j b → ⊥) (c : Bool) where
-  fits-word : b < 16777215
+    (bl : b < B) (small : B < lineBlocks) (alone : (j : ℕ) → (j ≡ i → ⊥) → Has lines j b → ⊥) (c : Bool) where
+  fits-word : b < lineBlocks
   fits-word = omega arith
 
   pub fill-lined : Lined B l t H (set lines i (word b c 0))
@@ -164,47 +166,58 @@ module _ {B l t : ℕ} {H : ℕ → ℕ} {lines : List ℕ} (v : Lined B l t H l
   pub fill-keeps : (j : ℕ) → 0 < holder (at lines j) → at (set lines i (word b c 0)) j ≡ at lines j
   fill-keeps j p = at-other v i (word b c 0) il j (λ q. let y : holder (at lines j) ≡ 0 = ap (λ (k : ℕ). holder (at lines k)) q ∙ z in omega arith)
 
+-- the shape that a step leaves: the hand alone has moved, to a line
+pub record Shaped (shape after : Shape) : Type 0 where
+  pub hand-lt : after .hand < shape .l
+  pub is-shape : after ≡ atHand shape (after .hand)
+
+pub unmoved : {shape : Shape} → shape .hand < shape .l → Shaped shape shape
+unmoved q = record { hand-lt = q; is-shape = refl }
+
+pub moved-to : {shape : Shape} {h : ℕ} → h < shape .l → Shaped shape (atHand shape h)
+moved-to q = record { hand-lt = q; is-shape = refl }
+
 -- a law for each way out of bringing in
-module _ (l hand b : ℕ) (r : Rows) where
-  pub bring-found : lineOf (r .lines) l b < l → bringIn l hand b r ≡ (record { line = lineOf (r .lines) l b; hand = hand; rows = r })
+module _ (shape : Shape) (b : ℕ) (r : Rows) where
+  pub bring-found : lineOf (r .lines) (shape .l) b < shape .l → bringIn shape b r ≡ (record { line = lineOf (r .lines) (shape .l) b; shape = shape; rows = r })
   unfolding bringIn
   bring-found q = rw (lt-ltb _ _ q)
 
-  pub bring-placed : l ≤ lineOf (r .lines) l b → placeLine l hand (r .lines) (r .bytes) < l
-      → bringIn l hand b r ≡ (record {
-        line = placeLine l hand (r .lines) (r .bytes);
-        hand = placeHand l hand (r .lines) (r .bytes);
-        rows = filled (withMemory r (placeMemory l hand r)) (placeLine l hand (r .lines) (r .bytes)) b false (blockOr0 (placeMemory l hand r) (blockPlace b));
+  pub bring-placed : shape .l ≤ lineOf (r .lines) (shape .l) b → placeLine shape (r .lines) (r .bytes) < shape .l
+      → bringIn shape b r ≡ (record {
+        line = placeLine shape (r .lines) (r .bytes);
+        shape = atHand shape (placeHand shape (r .lines) (r .bytes));
+        rows = filled (withMemory r (placeMemory shape r)) (placeLine shape (r .lines) (r .bytes)) b false (blockOr0 (placeMemory shape r) (blockPlace b));
       })
   unfolding bringIn
   bring-placed q p = rw (le-ltb _ _ q, lt-ltb _ _ p)
 
-  pub bring-none : l ≤ lineOf (r .lines) l b → l ≤ placeLine l hand (r .lines) (r .bytes) → bringIn l hand b r ≡ (record { line = l; hand = hand; rows = r })
+  pub bring-none : shape .l ≤ lineOf (r .lines) (shape .l) b → shape .l ≤ placeLine shape (r .lines) (r .bytes) → bringIn shape b r ≡ (record { line = shape .l; shape = shape; rows = r })
   unfolding bringIn
   bring-none q p = rw (le-ltb _ _ q, le-ltb _ _ p)
 
 -- what bringing block b in gives
-pub record Brings (B l t : ℕ) (H : ℕ → ℕ) (r : Rows) (b : ℕ) (o : Brought) : Type 0 where
-  pub line-lt : o .line < l
-  pub hand-lt : o .hand < l
+pub record Brings (shape : Shape) (B : ℕ) (H : ℕ → ℕ) (r : Rows) (b : ℕ) (o : Brought) : Type 0 where
+  pub line-lt : o .line < shape .l
+  pub shaped : Shaped shape (o .shape)
   pub has-it : Has (o .rows .lines) (o .line) b
-  pub lined : Lined B l t H (o .rows .lines)
-  pub loose : (lineOf (r .lines) l b < l → holder (at (r .lines) (lineOf (r .lines) l b)) ≡ 0) → holder (at (o .rows .lines) (o .line)) ≡ 0
+  pub lined : Lined B (shape .l) (shape .t) H (o .rows .lines)
+  pub loose : (lineOf (r .lines) (shape .l) b < shape .l → holder (at (r .lines) (lineOf (r .lines) (shape .l) b)) ≡ 0) → holder (at (o .rows .lines) (o .line)) ≡ 0
   pub keeps : (j : ℕ) → 0 < holder (at (r .lines) j) → at (o .rows .lines) j ≡ at (r .lines) j
   pub lines-long : length (o .rows .lines) ≡ length (r .lines)
   pub bytes-long : length (o .rows .bytes) ≡ length (r .bytes)
   pub memory-long : length (o .rows .memory) ≡ length (r .memory)
 
-module _ {B l t : ℕ} {H : ℕ → ℕ} (r : Rows) (hand b : ℕ) (v : Lined B l t H (r .lines)) (few : t < l) (fit : rowsFit l (r .lines) (r .bytes) ≡ true)
-    (hl : hand < l) (bl : b < B) (small : B < 16777215) where
-  pub brings : Brings B l t H r b (bringIn l hand b r)
-  brings = go (lt-or-ge (lineOf (r .lines) l b) l)
+module _ (shape : Shape) {B : ℕ} {H : ℕ → ℕ} (r : Rows) (b : ℕ) (v : Lined B (shape .l) (shape .t) H (r .lines)) (few : shape .t < shape .l) (fit : rowsFit (shape .l) (r .lines) (r .bytes) ≡ true)
+    (hl : shape .hand < shape .l) (bl : b < B) (small : B < lineBlocks) where
+  pub brings : Brings shape B H r b (bringIn shape b r)
+  brings = go (lt-or-ge (lineOf (r .lines) (shape .l) b) (shape .l))
     where
-      go : (lineOf (r .lines) l b < l) ⊎ (l ≤ lineOf (r .lines) l b) → Brings B l t H r b (bringIn l hand b r)
-      go (inl q) = rw (bring-found l hand b r q) (record {
+      go : (lineOf (r .lines) (shape .l) b < shape .l) ⊎ (shape .l ≤ lineOf (r .lines) (shape .l) b) → Brings shape B H r b (bringIn shape b r)
+      go (inl q) = rw (bring-found shape b r q) (record {
         line-lt = q;
-        hand-lt = hl;
-        has-it = lineOf-has (r .lines) l b q;
+        shaped = unmoved hl;
+        has-it = lineOf-has (r .lines) (shape .l) b q;
         lined = v;
         loose = λ f. f q;
         keeps = λ j p. refl;
@@ -213,17 +226,17 @@ module _ {B l t : ℕ} {H : ℕ → ℕ} (r : Rows) (hand b : ℕ) (v : Lined B 
         memory-long = refl;
       })
       go (inr q) =
-          let p = place-loose r hand v few fit in
-          let i = placeLine l hand (r .lines) (r .bytes) in
-          let alone : (j : ℕ) → (j ≡ i → ⊥) → Has (r .lines) j b → ⊥ = (λ j n h. lineOf-none (r .lines) l b j q (low v j b h) h) in
-          rw (bring-placed l hand b r q (p .0)) (record {
+          let p = place-loose shape r v few fit in
+          let i = placeLine shape (r .lines) (r .bytes) in
+          let alone : (j : ℕ) → (j ≡ i → ⊥) → Has (r .lines) j b → ⊥ = (λ j n h. lineOf-none (r .lines) (shape .l) b j q (low v j b h) h) in
+          rw (bring-placed shape b r q (p .0)) (record {
             line-lt = p .0;
-            hand-lt = place-hand r hand v few fit hl;
+            shaped = moved-to (place-hand shape r v few fit hl);
             has-it = fill-has v i b (p .0) (p .1) bl small alone false;
             lined = fill-lined v i b (p .0) (p .1) bl small alone false;
             loose = λ f. fill-loose v i b (p .0) (p .1) bl small alone false;
             keeps = fill-keeps v i b (p .0) (p .1) bl small alone false;
             lines-long = length-set (r .lines) i _;
             bytes-long = length-putW 64 (r .bytes) _ _ (blockOr0-length _ _);
-            memory-long = place-memory-length r hand v few fit;
+            memory-long = place-memory-length shape r v few fit;
           })

@@ -5,7 +5,7 @@ use Prim.Native.Nat.{ℕ, _<_, _≤_}
 use native.Mathlib.Omega.{arith}
 use borrow.Author.Tests.{lt-ltb, ltb-true, ltb-false, eq-eqb}
 use Rattle.laws.proofs.Choice.{both-true}
-use Rattle.line.specs.Word.{used, blockOf, changed, holder, held, has, heldBy}
+use Rattle.line.specs.Word.{used, blockOf, changed, holder, held, has, heldBy, lineBlocks, marks}
 use Rattle.line.proofs.Words.{used-word, blockOf-word, holder-word, changed-word}
 
 pub holder-free : holder 0 ≡ 0
@@ -29,7 +29,7 @@ unfolding has
 used-has w b u e = both-true _ _ u (eq-eqb _ _ e)
 
 -- a line whose block fits a word, with another holder
-module _ (w h : ℕ) (p : blockOf w < 16777215) (q : h < 128) where
+module _ (w h : ℕ) (p : blockOf w < lineBlocks) (q : h < marks) where
   pub used-heldBy : used (heldBy w h) ≡ true
   unfolding heldBy
   used-heldBy = used-word (blockOf w) (changed w) h p q

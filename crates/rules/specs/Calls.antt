@@ -4,6 +4,8 @@ use mathlib.Core.Bool.{Bool, not}
 use Prim.Native.Nat.{ℕ, _+_}
 use lib.Dec.{eqb, ltb}
 use lib.ListN.{set}
+use Rattle.geometry.specs.declared.Shape.{Shape}
+use Rattle.geometry.specs.Shape.{shapeOf}
 use Rattle.geometry.specs.TagMemory.{groups, mapBlockOf, mapByteOf, mapBitOf, blockPlace}
 use Rattle.laws.specs.Choice.{pick, both, either}
 use Rattle.laws.specs.Refusal.{Tests, refusal, unless}
@@ -36,26 +38,29 @@ abbrev pub accepted : State → List ℕ → List ℕ → Out
 accepted s bytes memory = record { said = ok; state = s; bytes = bytes; memory = memory }
 
 -- "fresh 1, 2": "A fresh memory sets every map byte to 0 and touches nothing else."
-abbrev pub freshTests : ℕ → ℕ → ℕ → List ℕ → List ℕ → Tests
-freshTests n t l bytes memory = (limits n t l, 1) ∷ (lengthsRight n l bytes memory, 2) ∷ []
+abbrev pub freshTests : Shape → List ℕ → List ℕ → Tests
+freshTests shape bytes memory = (limits shape, 1) ∷ (lengthsRight shape bytes memory, 2) ∷ []
 
 unfoldable pub fresh : ℕ → ℕ → ℕ → List ℕ → List ℕ → Out
 fresh n t l bytes memory =
-    unless (refusal (freshTests n t l bytes memory)) (accepted (begun n t l) bytes (clearedMap n memory)) (λ c. refused c zeroState bytes memory)
+    let shape = shapeOf n t l in
+    unless (refusal (freshTests shape bytes memory)) (accepted (begun shape) bytes (clearedMap n memory)) (λ c. refused c zeroState bytes memory)
 
 -- "open 1, 2, 3": "Opening changes no byte."
-abbrev pub openTests : ℕ → ℕ → ℕ → List ℕ → List ℕ → Tests
-openTests n t l bytes memory = freshTests n t l bytes memory ++ (isTrue n memory, 3) ∷ []
+abbrev pub openTests : Shape → List ℕ → List ℕ → Tests
+openTests shape bytes memory = freshTests shape bytes memory ++ (isTrue (shape .n) memory, 3) ∷ []
 
 unfoldable pub opened : ℕ → ℕ → ℕ → List ℕ → List ℕ → Out
-opened n t l bytes memory = unless (refusal (openTests n t l bytes memory)) (accepted (begun n t l) bytes memory) (λ c. refused c zeroState bytes memory)
+opened n t l bytes memory =
+    let shape = shapeOf n t l in
+    unless (refusal (openTests shape bytes memory)) (accepted (begun shape) bytes memory) (λ c. refused c zeroState bytes memory)
 
 -- what each call on a state asks first, 4 and 2
 abbrev pub stateTests : State → List ℕ → List ℕ → Tests
-stateTests s bytes memory = (whole s, 4) ∷ (lengthsRight (s .n) (s .l) bytes memory, 2) ∷ []
+stateTests s bytes memory = (whole s, 4) ∷ (lengthsRight (s .shape) bytes memory, 2) ∷ []
 
 abbrev pub withTracker : State → ℕ → Tracker → State
-withTracker s x t = record { n = s .n; t = s .t; l = s .l; hand = s .hand; lines = s .lines; trackers = set (s .trackers) x t }
+withTracker s x t = record { shape = s .shape; lines = s .lines; trackers = set (s .trackers) x t }
 
 -- 02 E3: "a write to a group that any busy tracker has, and a read of a group that a busy write has": access a is such a one by tracker u
 unfoldable pub meets : Access → Tracker → Bool
@@ -66,11 +71,12 @@ unfoldable pub meetsNone : (t : ℕ) → Access → List Tracker → Bool
 meetsNone t a us = all (λ y. not (meets a (trackerAt us y))) t
 
 -- "issue 4, 2, 5, 6, 7" and "13, after 7": of access a to tracker x, among the trackers us
-abbrev pub issueTests : (n t x : ℕ) → Access → List Tracker → Tests
-issueTests n t x a us = (ltb x t, 5) ∷ (ltb (a .group) (groups n), 6) ∷ (isIdle (trackerAt us x), 7) ∷ (meetsNone t a us, 13) ∷ []
+abbrev pub issueTests : Shape → (x : ℕ) → Access → List Tracker → Tests
+issueTests shape x a us =
+    (ltb x (shape .t), 5) ∷ (ltb (a .group) (groups (shape .n)), 6) ∷ (isIdle (trackerAt us x), 7) ∷ (meetsNone (shape .t) a us, 13) ∷ []
 
 unfoldable pub issueNo : State → List ℕ → List ℕ → ℕ → Access → ℕ
-issueNo s bytes memory x a = refusal (stateTests s bytes memory ++ issueTests (s .n) (s .t) x a (s .trackers))
+issueNo s bytes memory x a = refusal (stateTests s bytes memory ++ issueTests (s .shape) x a (s .trackers))
 
 unfoldable pub issue : State → List ℕ → List ℕ → ℕ → Access → Out
 issue s bytes memory x a =
@@ -80,27 +86,27 @@ issue s bytes memory x a =
 abbrev pub stepped : State → ℕ → Turned → Out
 stepped s x r = record {
   said = r .said;
-  state = record { n = s .n; t = s .t; l = s .l; hand = r .hand; lines = r .rows .lines; trackers = set (s .trackers) x (r .tracker) };
+  state = record { shape = r .shape; lines = r .rows .lines; trackers = set (s .trackers) x (r .tracker) };
   bytes = r .rows .bytes;
   memory = r .rows .memory;
 }
 
 -- "step 4, 2, 5, 8": of tracker x, among the trackers us
-abbrev pub stepTests : (t x : ℕ) → List Tracker → Tests
-stepTests t x us = (ltb x t, 5) ∷ (not (isIdle (trackerAt us x)), 8) ∷ []
+abbrev pub stepTests : Shape → (x : ℕ) → List Tracker → Tests
+stepTests shape x us = (ltb x (shape .t), 5) ∷ (not (isIdle (trackerAt us x)), 8) ∷ []
 
 unfoldable pub stepNo : State → List ℕ → List ℕ → ℕ → ℕ
-stepNo s bytes memory x = refusal (stateTests s bytes memory ++ stepTests (s .t) x (s .trackers))
+stepNo s bytes memory x = refusal (stateTests s bytes memory ++ stepTests (s .shape) x (s .trackers))
 
 unfoldable pub step : State → List ℕ → List ℕ → ℕ → Out
 step s bytes memory x =
     unless (stepNo s bytes memory x)
-    (stepped s x (turnOf (s .n) (s .l) (s .hand) x (trackerAt (s .trackers) x) (record { lines = s .lines; bytes = bytes; memory = memory })))
+    (stepped s x (turnOf (s .shape) x (trackerAt (s .trackers) x) (record { lines = s .lines; bytes = bytes; memory = memory })))
     (λ c. refused c s bytes memory)
 
 -- every one of the T trackers is idle
 unfoldable pub allIdle : State → Bool
-allIdle s = all (λ x. isIdle (trackerAt (s .trackers) x)) (s .t)
+allIdle s = all (λ x. isIdle (trackerAt (s .trackers) x)) (s .shape .t)
 
 -- "drain 4, 2, 7"
 abbrev pub drainTests : (rest : Bool) → Tests
@@ -110,30 +116,30 @@ unfoldable pub drainNo : State → List ℕ → List ℕ → ℕ
 drainNo s bytes memory = refusal (stateTests s bytes memory ++ drainTests (allIdle s))
 
 abbrev pub withLines : State → List ℕ → State
-withLines s ls = record { n = s .n; t = s .t; l = s .l; hand = s .hand; lines = ls; trackers = s .trackers }
+withLines s ls = record { shape = s .shape; lines = ls; trackers = s .trackers }
 
 unfoldable pub drain : State → List ℕ → List ℕ → Out
 drain s bytes memory =
-    let d = drained (s .l) (record { lines = s .lines; bytes = bytes; memory = memory }) in
+    let d = drained (s .shape .l) (record { lines = s .lines; bytes = bytes; memory = memory }) in
     unless (drainNo s bytes memory) (accepted (withLines s (d .lines)) bytes (d .memory)) (λ c. refused c s bytes memory)
 
 -- "show 4, 2, 6, 7"; the companion call gives this number
-abbrev pub showTests : (n k : ℕ) (rest : Bool) → Tests
-showTests n k rest = (ltb k n, 6) ∷ (rest, 7) ∷ []
+abbrev pub showTests : Shape → (k : ℕ) (rest : Bool) → Tests
+showTests shape k rest = (ltb k (shape .n), 6) ∷ (rest, 7) ∷ []
 
 unfoldable pub showNo : State → List ℕ → List ℕ → ℕ → ℕ
-showNo s bytes memory k = refusal (stateTests s bytes memory ++ showTests (s .n) k (allIdle s))
+showNo s bytes memory k = refusal (stateTests s bytes memory ++ showTests (s .shape) k (allIdle s))
 
 -- leaf k's bit, "read in the map block's line if it has one"
 unfoldable pub shownBit : State → List ℕ → List ℕ → ℕ → ℕ
 shownBit s bytes memory k =
-    let j = lineOf (s .lines) (s .l) (s .n + mapBlockOf k) in
-    pick (ltb j (s .l)) (bitAt bytes (blockPlace j + mapByteOf k) (mapBitOf k)) (leafBit (s .n) memory k)
+    let j = lineOf (s .lines) (s .shape .l) (s .shape .n + mapBlockOf k) in
+    pick (ltb j (s .shape .l)) (bitAt bytes (blockPlace j + mapByteOf k) (mapBitOf k)) (leafBit (s .shape .n) memory k)
 
 -- "the 64 in the lines, if a line has it; else, under bit 1 .., the 64 in memory; under bit 0, an empty part of memory. On a refusal it is empty too"
 unfoldable pub show : State → List ℕ → List ℕ → ℕ → List ℕ
 show s bytes memory k =
-    let i = lineOf (s .lines) (s .l) k in
+    let i = lineOf (s .lines) (s .shape .l) k in
     unless (showNo s bytes memory k)
-    (pick (ltb i (s .l)) (lineBytes bytes i) (pick (eqb (shownBit s bytes memory k) 1) (blockAt memory k) []))
+    (pick (ltb i (s .shape .l)) (lineBytes bytes i) (pick (eqb (shownBit s bytes memory k) 1) (blockAt memory k) []))
     (λ c. [])

@@ -6,6 +6,8 @@ use lib.Dec.{eqb, ltb, leb}
 use lib.ListN.{length, getD, set}
 use Rattle.laws.specs.Choice.{pick, both}
 use Rattle.laws.specs.Bytes.{part, putW}
+use Rattle.geometry.specs.declared.Shape.{Shape}
+use Rattle.geometry.specs.Shape.{atHand}
 use Rattle.geometry.specs.TagMemory.{blockPlace}
 use Rattle.block.specs.Block.{blockOr0}
 use Rattle.line.specs.Word.{blockOf, changed, word, cleaned}
@@ -22,14 +24,17 @@ rowsFit l lines bytes = both (leb l (length lines)) (eqb (length bytes) (64 * l)
 
 -- "Placing a block takes the lowest free line; with none free, the first line at or after the hand .. that no tracker holds."
 -- L where there is none, as where the rows are not of L lines.
-unfoldable pub placeLine : ℕ → ℕ → List ℕ → List ℕ → ℕ
-placeLine l hand lines bytes =
-    pick (rowsFit l lines bytes) (pick (ltb (lowestFree lines l) l) (lowestFree lines l) (victim lines l hand)) l
+unfoldable pub placeLine : Shape → List ℕ → List ℕ → ℕ
+placeLine shape lines bytes =
+    let l = shape .l in
+    pick (rowsFit l lines bytes) (pick (ltb (lowestFree lines l) l) (lowestFree lines l) (victim lines l (shape .hand))) l
 
 -- "the hand then moves to the line after it .. A free line leaves the hand where it was."
-unfoldable pub placeHand : ℕ → ℕ → List ℕ → List ℕ → ℕ
-placeHand l hand lines bytes =
-    pick (both (rowsFit l lines bytes) (leb l (lowestFree lines l))) (pick (ltb (victim lines l hand) l) (after l (victim lines l hand)) hand) hand
+unfoldable pub placeHand : Shape → List ℕ → List ℕ → ℕ
+placeHand shape lines bytes =
+    let l = shape .l in
+    let i = victim lines l (shape .hand) in
+    pick (both (rowsFit l lines bytes) (leb l (lowestFree lines l))) (pick (ltb i l) (after l i) (shape .hand)) (shape .hand)
 
 -- "That line, if changed, is first written to its block's own place in the lent memory": memory after that, for line i
 unfoldable pub writtenBack : List ℕ → List ℕ → List ℕ → ℕ → List ℕ
@@ -37,15 +42,15 @@ writtenBack lines bytes memory i =
     pick (changed (getD lines i 0)) (putW 64 memory (blockPlace (blockOf (getD lines i 0))) (lineBytes bytes i)) memory
 
 -- memory after placing
-unfoldable pub placeMemory : ℕ → ℕ → Rows → List ℕ
-placeMemory l hand r =
-    let i = placeLine l hand (r .lines) (r .bytes) in
-    pick (ltb i l) (writtenBack (r .lines) (r .bytes) (r .memory) i) (r .memory)
+unfoldable pub placeMemory : Shape → Rows → List ℕ
+placeMemory shape r =
+    let i = placeLine shape (r .lines) (r .bytes) in
+    pick (ltb i (shape .l)) (writtenBack (r .lines) (r .bytes) (r .memory) i) (r .memory)
 
--- a line, the hand and the rows after a block was brought in; the line is L where there was none to take, and then nothing changed
+-- a line, the shape with its hand and the rows after a block was brought in; the line is L where there was none to take, and then nothing changed
 pub record Brought : Type 0 where
   pub line : ℕ
-  pub hand : ℕ
+  pub shape : Shape
   pub rows : Rows
 
 -- block b in line i with its bytes, changed or clean
@@ -59,15 +64,16 @@ abbrev pub withLines : Rows → List ℕ → Rows
 withLines r ls = record { lines = ls; bytes = r .bytes; memory = r .memory }
 
 -- "Bring in" means: use the line that has the block, else place it and copy 64 bytes from memory, clean.
-unfoldable pub bringIn : ℕ → ℕ → ℕ → Rows → Brought
-bringIn l hand b r =
+unfoldable pub bringIn : Shape → ℕ → Rows → Brought
+bringIn shape b r =
+    let l = shape .l in
     let i = lineOf (r .lines) l b in
-    let p = placeLine l hand (r .lines) (r .bytes) in
-    let m = placeMemory l hand r in
-    pick (ltb i l) (record { line = i; hand = hand; rows = r })
+    let p = placeLine shape (r .lines) (r .bytes) in
+    let m = placeMemory shape r in
+    pick (ltb i l) (record { line = i; shape = shape; rows = r })
     (pick (ltb p l)
-    (record { line = p; hand = placeHand l hand (r .lines) (r .bytes); rows = filled (withMemory r m) p b false (blockOr0 m (blockPlace b)) })
-    (record { line = l; hand = hand; rows = r }))
+    (record { line = p; shape = atHand shape (placeHand shape (r .lines) (r .bytes)); rows = filled (withMemory r m) p b false (blockOr0 m (blockPlace b)) })
+    (record { line = l; shape = shape; rows = r }))
 
 -- "Drain writes changed lines to memory, lowest line first, and marks them clean; the lines stay.": the first i lines
 unfoldable pub drained : ℕ → Rows → Rows

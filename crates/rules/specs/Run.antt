@@ -32,7 +32,7 @@ does k (issues x a) = issue (k .state) (k .bytes) (k .memory) x a
 does k (steps x) = step (k .state) (k .bytes) (k .memory) x
 does k drains = drain (k .state) (k .bytes) (k .memory)
 does k (lends b m c) =
-    pick (lengthsRight (k .state .n) (k .state .l) b m) (does k c)
+    pick (lengthsRight (k .state .shape) b m) (does k c)
     (elsewhere (does (record { state = k .state; bytes = b; memory = m }) c) k)
 
 -- what the calls of a run say, in order, and what it passes on at the end

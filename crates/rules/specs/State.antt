@@ -5,16 +5,15 @@ use Prim.Native.Nat.{ℕ, _*_}
 use lib.Dec.{eqb}
 use lib.ListN.{length, getD, replicate}
 use Rattle.laws.specs.Choice.{both}
+use Rattle.geometry.specs.declared.Shape.{Shape}
+use Rattle.geometry.specs.Shape.{shapeOf}
 use Rattle.geometry.specs.TagMemory.{memoryLength, mostTrackers, mostLines}
 use Rattle.tracker.specs.declared.Tracker.{Tracker}
 use Rattle.tracker.specs.Tracker.{idle}
 
--- "There are T trackers .. and L lines" over n leaves; each line is a number (Rattle.line.specs.Word)
+-- "There are T trackers .. and L lines" over n leaves: the shape; each line is a number (Rattle.line.specs.Word)
 pub record State : Type 0 where
-  pub n : ℕ
-  pub t : ℕ
-  pub l : ℕ
-  pub hand : ℕ
+  pub shape : Shape
   pub lines : List ℕ
   pub trackers : List Tracker
 
@@ -27,13 +26,13 @@ abbrev pub trackerAt : List Tracker → ℕ → Tracker
 trackerAt ts x = getD ts x idle
 
 -- "The line bytes are a lent buffer of 64 x L", and memory has its length
-unfoldable pub lengthsRight : ℕ → ℕ → List ℕ → List ℕ → Bool
-lengthsRight n l bytes memory = both (eqb (length bytes) (64 * l)) (eqb (length memory) (memoryLength n))
+unfoldable pub lengthsRight : Shape → List ℕ → List ℕ → Bool
+lengthsRight shape bytes memory = both (eqb (length bytes) (64 * shape .l)) (eqb (length memory) (memoryLength (shape .n)))
 
--- "After fresh and open every line is free, every tracker idle, and their other fields zero"; "The hand starts at 0."
-abbrev pub begun : ℕ → ℕ → ℕ → State
-begun n t l = record { n = n; t = t; l = l; hand = 0; lines = replicate mostLines 0; trackers = replicate mostTrackers idle }
+-- "After fresh and open every line is free, every tracker idle, and their other fields zero"
+abbrev pub begun : Shape → State
+begun shape = record { shape = shape; lines = replicate mostLines 0; trackers = replicate mostTrackers idle }
 
 -- "refused, they return one that is zero throughout"
 abbrev pub zeroState : State
-zeroState = begun 0 0 0
+zeroState = begun (shapeOf 0 0 0)

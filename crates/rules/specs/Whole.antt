@@ -3,6 +3,7 @@ use mathlib.Core.Bool.{Bool, true}
 use Prim.Native.Nat.{ℕ, _+_, _-_}
 use lib.Dec.{eqb, ltb, leb}
 use lib.ListN.{length, getD}
+use Rattle.geometry.specs.declared.Shape.{Shape}
 use Rattle.geometry.specs.TagMemory.{groups, mostTrackers, mostLines, inLimits, leafOf, mapBlockOf, blocks}
 use Rattle.laws.specs.Choice.{both, implies, no}
 use Rattle.laws.specs.Scan.{all}
@@ -15,8 +16,9 @@ use Rattle.line.specs.Find.{lineOf}
 use Rattle.rules.specs.State.{State, trackerAt}
 
 -- "There are T trackers, 1 to 8, and L lines, T + 1 to 64."
-unfoldable pub limits : ℕ → ℕ → ℕ → Bool
-limits n t l = both (inLimits n) (both (both (leb 1 t) (leb t mostTrackers)) (both (leb (t + 1) l) (leb l mostLines)))
+unfoldable pub limits : Shape → Bool
+limits shape =
+    both (inLimits (shape .n)) (both (both (leb 1 (shape .t)) (leb (shape .t) mostTrackers)) (both (leb (shape .t + 1) (shape .l)) (leb (shape .l) mostLines)))
 
 -- the map block of a group, in a memory of n leaves
 abbrev pub mapBlock : ℕ → ℕ → ℕ
@@ -31,8 +33,8 @@ unfoldable pub lineWhole : State → ℕ → Bool
 lineWhole s i =
     let w = getD (s .lines) i 0 in
     implies (used w)
-    (both (both (ltb (blockOf w) (blocks (s .n))) (eqb (lineOf (s .lines) (s .l) (blockOf w)) i))
-    (implies (held w) (both (leb (holder w) (s .t)) (holds (s .n) (trackerAt (s .trackers) (holder w - 1)) (blockOf w)))))
+    (both (both (ltb (blockOf w) (blocks (s .shape .n))) (eqb (lineOf (s .lines) (s .shape .l) (blockOf w)) i))
+    (implies (held w) (both (leb (holder w) (s .shape .t)) (holds (s .shape .n) (trackerAt (s .trackers) (holder w - 1)) (blockOf w)))))
 
 -- "a tracker at Probe is bottom-up and one at Finish is a write"
 abbrev pub phaseWhole : (write bottom : Bool) → Phase → Bool
@@ -47,14 +49,14 @@ phaseWhole write bottom Clear = write
 unfoldable pub trackerWhole : State → ℕ → Bool
 trackerWhole s x =
     let t = trackerAt (s .trackers) x in
-    let i = lineOf (s .lines) (s .l) (mapBlock (s .n) (t .group)) in
-    both (both (implies (no (isIdle t)) (ltb (t .group) (groups (s .n)))) (phaseWhole (t .write) (t .bottom) (t .phase)))
-    (implies (holdsAt (t .phase)) (both (ltb i (s .l)) (eqb (holder (getD (s .lines) i 0)) (x + 1))))
+    let i = lineOf (s .lines) (s .shape .l) (mapBlock (s .shape .n) (t .group)) in
+    both (both (implies (no (isIdle t)) (ltb (t .group) (groups (s .shape .n)))) (phaseWhole (t .write) (t .bottom) (t .phase)))
+    (implies (holdsAt (t .phase)) (both (ltb i (s .shape .l)) (eqb (holder (getD (s .lines) i 0)) (x + 1))))
 
 unfoldable pub whole : State → Bool
 whole s =
-    both (both (limits (s .n) (s .t) (s .l)) (ltb (s .hand) (s .l)))
-    (both (both (leb (s .l) (length (s .lines))) (leb (s .t) (length (s .trackers))))
-    (both (both (all (λ i. implies (leb (s .l) i) (no (used (getD (s .lines) i 0)))) (length (s .lines)))
-    (all (λ x. implies (leb (s .t) x) (isIdle (trackerAt (s .trackers) x))) (length (s .trackers))))
-    (both (all (lineWhole s) (s .l)) (all (trackerWhole s) (s .t)))))
+    both (both (limits (s .shape)) (ltb (s .shape .hand) (s .shape .l)))
+    (both (both (leb (s .shape .l) (length (s .lines))) (leb (s .shape .t) (length (s .trackers))))
+    (both (both (all (λ i. implies (leb (s .shape .l) i) (no (used (getD (s .lines) i 0)))) (length (s .lines)))
+    (all (λ x. implies (leb (s .shape .t) x) (isIdle (trackerAt (s .trackers) x))) (length (s .trackers))))
+    (both (all (lineWhole s) (s .shape .l)) (all (trackerWhole s) (s .shape .t)))))

@@ -21,7 +21,7 @@ met-does (issued r x access q e) = e
 met-does (stepped r b' m' x e) = e
 met-does (drained r m' e) = e
 
-lent-does : (k : Kept) (b m : List ℕ) (c : Call) (o : calls.Out) → lengthsRight (k .state .n) (k .state .l) b m ≡ false
+lent-does : (k : Kept) (b m : List ℕ) (c : Call) (o : calls.Out) → lengthsRight (k .state .shape) b m ≡ false
     → o ≡ does (record { state = k .state; bytes = b; memory = m }) c → elsewhere o k ≡ does k (lends b m c)
 unfolding does
 lent-does k b m c o w e = rw w (ap (λ (z : calls.Out). elsewhere z k) e)

@@ -1,6 +1,7 @@
 // 01 "One step of a tracker" on rows that are lent: the steps on a map block, Map and Finish, and a step by its tracker's phase.
 // The public function has no `requires`: what a step relies on is tested, and refused where it fails.
 use geometry::Geometry;
+use geometry::Shape;
 use tracker::Phase;
 use tracker::Tracker;
 use turned::Turned;
@@ -40,94 +41,91 @@ fn bit_in(bytes: &[u8], i: usize, g: u32) -> u8
 }
 
 // Line i's block is held by tracker x, which goes on to Leaf.
-fn holds_map(x: u32, i: usize, hand: usize, t: Tracker, lines: &mut [u32]) -> Turned
+fn holds_map(x: u32, i: usize, shape: Shape, t: Tracker, lines: &mut [u32]) -> Turned
     requires { ⌜ (x < holders) × (i < length (now lines)) ⌝ }
-    ensures { λ r. ⌜ ((bs m : List ℕ) → turned r (now (lines .exit)) bs m ≡ holdsMap x t (record { line = i; hand = hand; rows = rows (now (lines .entry)) bs m })) ⌝ }
+    ensures { λ r. ⌜ ((bs m : List ℕ) → turned r (now (lines .exit)) bs m ≡ holdsMap x t (record { line = i; shape = shape; rows = rows (now (lines .entry)) bs m })) ⌝ }
 {
     lines[i] = line::held_by(lines[i], x + 1);
-    turned::goes(hand, t, Phase::Leaf)
+    turned::goes(shape, t, Phase::Leaf)
 }
 
 // Map, with the map block in line i. Bit 0: a read ends with 0; a write of 0 ends "same". Otherwise hold the map block, on to Leaf.
-fn on_map(x: u32, i: usize, hand: usize, t: Tracker, lines: &mut [u32], bytes: &[u8]) -> Turned
+fn on_map(x: u32, i: usize, shape: Shape, t: Tracker, lines: &mut [u32], bytes: &[u8]) -> Turned
     requires { ⌜ (x < holders) × (i < length (now lines)) × (64 * i + 64 ≤ length (now bytes)) ⌝ }
-    ensures { λ r. ⌜ ((m : List ℕ) → turned r (now (lines .exit)) (now (bytes .entry)) m ≡ onMap x t (record { line = i; hand = hand; rows = rows (now (lines .entry)) (now (bytes .entry)) m })) ⌝ }
+    ensures { λ r. ⌜ ((m : List ℕ) → turned r (now (lines .exit)) (now (bytes .entry)) m ≡ onMap x t (record { line = i; shape = shape; rows = rows (now (lines .entry)) (now (bytes .entry)) m })) ⌝ }
 {
     if bit_in(bytes, i, t.group) != 0 {
-        return holds_map(x, i, hand, t, lines);
+        return holds_map(x, i, shape, t, lines);
     }
     if !t.write {
-        return turned::ends_read(hand, t, 0);
+        return turned::ends_read(shape, t, 0);
     }
     if t.value == 0 {
-        return turned::ends_same(hand, t);
+        return turned::ends_same(shape, t);
     }
-    holds_map(x, i, hand, t, lines)
+    holds_map(x, i, shape, t, lines)
 }
 
 // Map. If another tracker holds this map block: wait. Else bring it in.
 fn map(
-    n: u32,
-    l: usize,
-    hand: usize,
+    shape: Shape,
     x: u32,
     t: Tracker,
     lines: &mut [u32],
     bytes: &mut [u8],
     memory: &mut [u8],
 ) -> Turned
-    requires { ⌜ (n ≤ mostLeaves) × (x < holders) × (l ≤ length (now lines)) × (length (now bytes) ≡ 64 * l) ⌝ }
-    ensures { λ r. ⌜ turned r (now (lines .exit)) (now (bytes .exit)) (now (memory .exit)) ≡ map n l hand x t (rows (now (lines .entry)) (now (bytes .entry)) (now (memory .entry))) ⌝ }
+    requires { ⌜ (shape .n ≤ mostLeaves) × (x < holders) × (shape .l ≤ length (now lines)) × (length (now bytes) ≡ 64 * shape .l) ⌝ }
+    ensures { λ r. ⌜ turned r (now (lines .exit)) (now (bytes .exit)) (now (memory .exit)) ≡ map shape x t (rows (now (lines .entry)) (now (bytes .entry)) (now (memory .entry))) ⌝ }
 {
-    let b = map_block(n, t.group);
+    let l = shape.l;
+    let b = map_block(shape.n, t.group);
     let i = line::line_of(lines, l, b);
     if i < l {
         if line::held(lines[i]) {
-            return turned::waits(hand, t);
+            return turned::waits(shape, t);
         }
-        return on_map(x, i, hand, t, lines, bytes);
+        return on_map(x, i, shape, t, lines, bytes);
     }
-    let spot = lines::fetch(l, hand, b, lines, bytes, memory);
+    let spot = lines::fetch(shape, b, lines, bytes, memory);
     let at = spot.line;
     if l <= at {
-        return turned::refuses(4, hand, t);
+        return turned::refuses(4, shape, t);
     }
-    on_map(x, at, spot.hand, t, lines, bytes)
+    on_map(x, at, spot.shape, t, lines, bytes)
 }
 
 // Leaf, where the tracker holds its map block; 4 where no line has it. The bit is read again in the held map line.
 fn at_leaf(
-    n: u32,
-    l: usize,
-    hand: usize,
+    shape: Shape,
     t: Tracker,
     lines: &mut [u32],
     bytes: &mut [u8],
     memory: &mut [u8],
 ) -> Turned
-    requires { ⌜ (n ≤ mostLeaves) × (l ≤ length (now lines)) × (length (now bytes) ≡ 64 * l) ⌝ }
-    ensures { λ r. ⌜ turned r (now (lines .exit)) (now (bytes .exit)) (now (memory .exit)) ≡ inLine n l hand t (rows (now (lines .entry)) (now (bytes .entry)) (now (memory .entry))) Leaf ⌝ }
+    requires { ⌜ (shape .n ≤ mostLeaves) × (shape .l ≤ length (now lines)) × (length (now bytes) ≡ 64 * shape .l) ⌝ }
+    ensures { λ r. ⌜ turned r (now (lines .exit)) (now (bytes .exit)) (now (memory .exit)) ≡ inLine shape t (rows (now (lines .entry)) (now (bytes .entry)) (now (memory .entry))) Leaf ⌝ }
 {
-    let j = line::line_of(lines, l, map_block(n, t.group));
+    let l = shape.l;
+    let j = line::line_of(lines, l, map_block(shape.n, t.group));
     if l <= j {
-        return turned::refuses(4, hand, t);
+        return turned::refuses(4, shape, t);
     }
     let bit = bit_in(bytes, j, t.group);
-    leaf::leaf(l, hand, j, bit, t, lines, bytes, memory)
+    leaf::leaf(shape, j, bit, t, lines, bytes, memory)
 }
 
 // Set or clear the bit, the map line is changed, end "done", let go. The map block is in line j.
 fn finish(
-    n: u32,
-    hand: usize,
+    shape: Shape,
     j: usize,
     set: bool,
     t: Tracker,
     lines: &mut [u32],
     bytes: &mut [u8],
 ) -> Turned
-    requires { ⌜ (n ≤ mostLeaves) × (j < length (now lines)) × (64 * j + 64 ≤ length (now bytes)) ⌝ }
-    ensures { λ r. ⌜ ((m : List ℕ) → turned r (now (lines .exit)) (now (bytes .exit)) m ≡ finish n hand j (pick set 1 0) t (rows (now (lines .entry)) (now (bytes .entry)) m)) ⌝ }
+    requires { ⌜ (shape .n ≤ mostLeaves) × (j < length (now lines)) × (64 * j + 64 ≤ length (now bytes)) ⌝ }
+    ensures { λ r. ⌜ ((m : List ℕ) → turned r (now (lines .exit)) (now (bytes .exit)) m ≡ finish shape j (pick set 1 0) t (rows (now (lines .entry)) (now (bytes .entry)) m)) ⌝ }
 {
     let k = Geometry::leaf_of(t.group);
     block::put_bit(
@@ -136,99 +134,88 @@ fn finish(
         Geometry::map_bit_of(k),
         set,
     );
-    lines[j] = line::word(map_block(n, t.group), true, 0);
-    turned::ends_done(hand, t)
+    lines[j] = line::word(map_block(shape.n, t.group), true, 0);
+    turned::ends_done(shape, t)
 }
 
 // Finish, where the tracker holds its map block; 4 where no line has it.
-fn finishes(
-    n: u32,
-    l: usize,
-    hand: usize,
-    set: bool,
-    t: Tracker,
-    lines: &mut [u32],
-    bytes: &mut [u8],
-) -> Turned
-    requires { ⌜ (n ≤ mostLeaves) × (l ≤ length (now lines)) × (length (now bytes) ≡ 64 * l) ⌝ }
-    ensures { λ r. ⌜ ((m : List ℕ) → turned r (now (lines .exit)) (now (bytes .exit)) m ≡ inLine n l hand t (rows (now (lines .entry)) (now (bytes .entry)) m) (pick set Set Clear)) ⌝ }
+fn finishes(shape: Shape, set: bool, t: Tracker, lines: &mut [u32], bytes: &mut [u8]) -> Turned
+    requires { ⌜ (shape .n ≤ mostLeaves) × (shape .l ≤ length (now lines)) × (length (now bytes) ≡ 64 * shape .l) ⌝ }
+    ensures { λ r. ⌜ ((m : List ℕ) → turned r (now (lines .exit)) (now (bytes .exit)) m ≡ inLine shape t (rows (now (lines .entry)) (now (bytes .entry)) m) (pick set Set Clear)) ⌝ }
 {
-    let j = line::line_of(lines, l, map_block(n, t.group));
+    let l = shape.l;
+    let j = line::line_of(lines, l, map_block(shape.n, t.group));
     if l <= j {
-        return turned::refuses(4, hand, t);
+        return turned::refuses(4, shape, t);
     }
-    finish(n, hand, j, set, t, lines, bytes)
+    finish(shape, j, set, t, lines, bytes)
 }
 
 // Each step is one of these.
 fn by_phase(
-    n: u32,
-    l: usize,
-    hand: usize,
+    shape: Shape,
     x: u32,
     t: Tracker,
     lines: &mut [u32],
     bytes: &mut [u8],
     memory: &mut [u8],
 ) -> Turned
-    requires { ⌜ (n ≤ mostLeaves) × (x < holders) × (l ≤ length (now lines)) × (length (now bytes) ≡ 64 * l) ⌝ }
-    ensures { λ r. ⌜ turned r (now (lines .exit)) (now (bytes .exit)) (now (memory .exit)) ≡ byPhase n l hand x t (rows (now (lines .entry)) (now (bytes .entry)) (now (memory .entry))) (t .phase) ⌝ }
+    requires { ⌜ (shape .n ≤ mostLeaves) × (x < holders) × (shape .l ≤ length (now lines)) × (length (now bytes) ≡ 64 * shape .l) ⌝ }
+    ensures { λ r. ⌜ turned r (now (lines .exit)) (now (bytes .exit)) (now (memory .exit)) ≡ byPhase shape x t (rows (now (lines .entry)) (now (bytes .entry)) (now (memory .entry))) (t .phase) ⌝ }
 {
     let phase = t.phase;
     match phase {
-        Phase::Idle => turned::refuses(8, hand, t),
-        Phase::Probe => leaf::probe(l, hand, t, lines, bytes),
-        Phase::Map => map(n, l, hand, x, t, lines, bytes, memory),
-        Phase::Leaf => at_leaf(n, l, hand, t, lines, bytes, memory),
-        Phase::Set => finishes(n, l, hand, true, t, lines, bytes),
-        Phase::Clear => finishes(n, l, hand, false, t, lines, bytes),
+        Phase::Idle => turned::refuses(8, shape, t),
+        Phase::Probe => leaf::probe(shape, t, lines, bytes),
+        Phase::Map => map(shape, x, t, lines, bytes, memory),
+        Phase::Leaf => at_leaf(shape, t, lines, bytes, memory),
+        Phase::Set => finishes(shape, true, t, lines, bytes),
+        Phase::Clear => finishes(shape, false, t, lines, bytes),
     }
 }
 
 // What a step can rely on: n in its limits, L lines, the tracker's group exists, its number fits a line's word.
-fn fit(n: u32, l: usize, x: u32, t: Tracker, lines: &[u32]) -> bool
-    ensures { λ r. ⌜ ((bs m : List ℕ) → r ≡ fit n l x t (rows (now (lines .entry)) bs m)) ⌝ }
+fn fit(shape: Shape, x: u32, t: Tracker, lines: &[u32]) -> bool
+    ensures { λ r. ⌜ ((bs m : List ℕ) → r ≡ fit shape x t (rows (now (lines .entry)) bs m)) ⌝ }
 {
-    if !Geometry::in_limits(n as u64) {
+    if !Geometry::in_limits(shape.n as u64) {
         return false;
     }
-    if lines.len() < l {
+    if lines.len() < shape.l {
         return false;
     }
-    if Geometry::groups(n) <= t.group as u64 {
+    if Geometry::groups(shape.n) <= t.group as u64 {
         return false;
     }
     x < line::HOLDERS
 }
 
 // The line bytes and memory have their lengths.
-pub fn lengths_right(n: u32, l: usize, bytes: &[u8], memory: &[u8]) -> bool
-    ensures { λ r. ⌜ r ≡ lengthsRight n l (now (bytes .entry)) (now (memory .entry)) ⌝ }
+pub fn lengths_right(shape: Shape, bytes: &[u8], memory: &[u8]) -> bool
+    ensures { λ r. ⌜ r ≡ lengthsRight shape (now (bytes .entry)) (now (memory .entry)) ⌝ }
 {
-    if !lines::bytes_fit(l, bytes) {
+    if !lines::bytes_fit(shape.l, bytes) {
         return false;
     }
-    memory.len() as u64 == Geometry::memory_length(n)
+    memory.len() as u64 == Geometry::memory_length(shape.n)
 }
 
-// One step of tracker x, which is t, over n leaves and L lines.
+// One step of tracker x, which is t.
 pub fn turn(
-    n: u32,
-    l: usize,
-    hand: usize,
+    shape: Shape,
     x: u32,
     t: Tracker,
     lines: &mut [u32],
     bytes: &mut [u8],
     memory: &mut [u8],
 ) -> Turned
-    ensures { λ r. ⌜ turned r (now (lines .exit)) (now (bytes .exit)) (now (memory .exit)) ≡ turnOf n l hand x t (rows (now (lines .entry)) (now (bytes .entry)) (now (memory .entry))) ⌝ }
+    ensures { λ r. ⌜ turned r (now (lines .exit)) (now (bytes .exit)) (now (memory .exit)) ≡ turnOf shape x t (rows (now (lines .entry)) (now (bytes .entry)) (now (memory .entry))) ⌝ }
 {
-    if !fit(n, l, x, t, lines) {
-        return turned::refuses(4, hand, t);
+    if !fit(shape, x, t, lines) {
+        return turned::refuses(4, shape, t);
     }
-    if !lengths_right(n, l, bytes, memory) {
-        return turned::refuses(2, hand, t);
+    if !lengths_right(shape, bytes, memory) {
+        return turned::refuses(2, shape, t);
     }
-    by_phase(n, l, hand, x, t, lines, bytes, memory)
+    by_phase(shape, x, t, lines, bytes, memory)
 }

@@ -53,7 +53,7 @@ fits n m a b e f = record {
   long = long n m e;
   ordered = in-order n a b f;
   within = not-over n a b f;
-  narrow = groups-most n (small n m e);
+  narrow = groups-most n 262144 (small n m e);
 }
 
 module _ (n : ℕ) (m : List ℕ) (a b : ℕ) where

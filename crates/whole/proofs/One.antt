@@ -5,6 +5,8 @@ use mathlib.Core.Bool.{Bool}
 use Prim.Native.Nat.{ℕ}
 use Rattle.laws.specs.Refusal.{refusal}
 use Rattle.laws.specs.Scan.{all}
+use Rattle.geometry.specs.declared.Shape.{Shape}
+use Rattle.geometry.specs.Shape.{shapeOf}
 use Rattle.tracker.specs.declared.Access.{Access}
 use Rattle.tracker.specs.declared.Tracker.{Tracker}
 use Rattle.tracker.specs.Tracker.{isIdle}
@@ -16,22 +18,21 @@ use Rattle.whole.specs.Parts.{stateOf}
 one : {A : Type 0} {d : A} (a b : A) → a ≡ d → b ≡ d → a ≡ b
 one a b p q = p ∙ sym q
 
-module _ (n t l : ℕ) where
-  pub one-limits : (a b : Bool) → a ≡ limits n t l → b ≡ limits n t l → a ≡ b
-  one-limits = one
+pub one-limits : (n t l : ℕ) (a b : Bool) → a ≡ limits (shapeOf n t l) → b ≡ limits (shapeOf n t l) → a ≡ b
+one-limits n t l = one
 
-  module _ (us : List Tracker) where
-    pub one-whole : (hand : ℕ) (lines : List ℕ) (a b : Bool) → a ≡ whole (stateOf n t l hand lines us) → b ≡ whole (stateOf n t l hand lines us) → a ≡ b
-    one-whole hand lines = one
+module _ (shape : Shape) (us : List Tracker) where
+  pub one-whole : (lines : List ℕ) (a b : Bool) → a ≡ whole (stateOf shape lines us) → b ≡ whole (stateOf shape lines us) → a ≡ b
+  one-whole lines = one
 
-    pub one-issue-refusal : (x : ℕ) (access : Access) (a b : ℕ) → a ≡ refusal (issueTests n t x access us) → b ≡ refusal (issueTests n t x access us) → a ≡ b
-    one-issue-refusal x access = one
+  pub one-issue-refusal : (x : ℕ) (access : Access) (a b : ℕ) → a ≡ refusal (issueTests shape x access us) → b ≡ refusal (issueTests shape x access us) → a ≡ b
+  one-issue-refusal x access = one
 
-    pub one-step-refusal : (x a b : ℕ) → a ≡ refusal (stepTests t x us) → b ≡ refusal (stepTests t x us) → a ≡ b
-    one-step-refusal x = one
+  pub one-step-refusal : (x a b : ℕ) → a ≡ refusal (stepTests shape x us) → b ≡ refusal (stepTests shape x us) → a ≡ b
+  one-step-refusal x = one
 
-    pub one-drain-refusal : (a b : ℕ) → a ≡ refusal (drainTests (all (λ x. isIdle (trackerAt us x)) t)) → b ≡ refusal (drainTests (all (λ x. isIdle (trackerAt us x)) t)) → a ≡ b
-    one-drain-refusal = one
+  pub one-drain-refusal : (a b : ℕ) → a ≡ refusal (drainTests (all (λ x. isIdle (trackerAt us x)) (shape .t))) → b ≡ refusal (drainTests (all (λ x. isIdle (trackerAt us x)) (shape .t))) → a ≡ b
+  one-drain-refusal = one
 
-    pub one-show-refusal : (k a b : ℕ) → a ≡ refusal (showTests n k (all (λ x. isIdle (trackerAt us x)) t)) → b ≡ refusal (showTests n k (all (λ x. isIdle (trackerAt us x)) t)) → a ≡ b
-    one-show-refusal k = one
+  pub one-show-refusal : (k a b : ℕ) → a ≡ refusal (showTests shape k (all (λ x. isIdle (trackerAt us x)) (shape .t))) → b ≡ refusal (showTests shape k (all (λ x. isIdle (trackerAt us x)) (shape .t))) → a ≡ b
+  one-show-refusal k = one

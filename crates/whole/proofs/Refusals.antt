@@ -8,6 +8,7 @@ use borrow.Author.Tests.{lt-ltb, le-ltb}
 use Rattle.laws.specs.Choice.{both}
 use Rattle.laws.specs.Refusal.{refusal}
 use Rattle.laws.proofs.Scan.{all-zero, all-more, all-fails}
+use Rattle.geometry.specs.declared.Shape.{Shape}
 use Rattle.geometry.specs.TagMemory.{groups, mostTrackers}
 use Rattle.tracker.specs.declared.Access.{Access}
 use Rattle.tracker.specs.declared.Tracker.{Tracker}
@@ -16,27 +17,27 @@ use Rattle.rules.specs.State.{trackerAt}
 use Rattle.rules.specs.Calls.{meets, meetsNone, issueTests, stepTests, drainTests, showTests}
 use Rattle.whole.proofs.Tests.{all-past}
 
-module _ (n t x : ℕ) (a : Access) (us : List Tracker) where
-  pub issue-5 : t ≤ x → refusal (issueTests n t x a us) ≡ 5
+module _ (shape : Shape) (x : ℕ) (a : Access) (us : List Tracker) where
+  pub issue-5 : shape .t ≤ x → refusal (issueTests shape x a us) ≡ 5
   unfolding refusal
-  issue-5 h = rw (le-ltb x t h)
+  issue-5 h = rw (le-ltb x (shape .t) h)
 
-  pub issue-6 : x < t → groups n ≤ a .group → refusal (issueTests n t x a us) ≡ 6
+  pub issue-6 : x < shape .t → groups (shape .n) ≤ a .group → refusal (issueTests shape x a us) ≡ 6
   unfolding refusal
-  issue-6 h k = rw (lt-ltb x t h, le-ltb (a .group) (groups n) k)
+  issue-6 h k = rw (lt-ltb x (shape .t) h, le-ltb (a .group) (groups (shape .n)) k)
 
-  pub issue-7 : x < t → a .group < groups n → isIdle (trackerAt us x) ≡ false → refusal (issueTests n t x a us) ≡ 7
+  pub issue-7 : x < shape .t → a .group < groups (shape .n) → isIdle (trackerAt us x) ≡ false → refusal (issueTests shape x a us) ≡ 7
   unfolding refusal
-  issue-7 h k q = rw (lt-ltb x t h, lt-ltb (a .group) (groups n) k, q)
+  issue-7 h k q = rw (lt-ltb x (shape .t) h, lt-ltb (a .group) (groups (shape .n)) k, q)
 
-  module _ (h : x < t) (k : a .group < groups n) (q : isIdle (trackerAt us x) ≡ true) where
-    pub issue-13 : meetsNone t a us ≡ false → refusal (issueTests n t x a us) ≡ 13
+  module _ (h : x < shape .t) (k : a .group < groups (shape .n)) (q : isIdle (trackerAt us x) ≡ true) where
+    pub issue-13 : meetsNone (shape .t) a us ≡ false → refusal (issueTests shape x a us) ≡ 13
     unfolding refusal
-    issue-13 m = rw (lt-ltb x t h, lt-ltb (a .group) (groups n) k, q, m)
+    issue-13 m = rw (lt-ltb x (shape .t) h, lt-ltb (a .group) (groups (shape .n)) k, q, m)
 
-    pub issue-0 : meetsNone t a us ≡ true → refusal (issueTests n t x a us) ≡ 0
+    pub issue-0 : meetsNone (shape .t) a us ≡ true → refusal (issueTests shape x a us) ≡ 0
     unfolding refusal
-    issue-0 m = rw (lt-ltb x t h, lt-ltb (a .group) (groups n) k, q, m)
+    issue-0 m = rw (lt-ltb x (shape .t) h, lt-ltb (a .group) (groups (shape .n)) k, q, m)
 
 -- an access that meets no tracker, turn by turn
 idle-met : (a : Access) → not (meets a idle) ≡ true
@@ -60,18 +61,18 @@ module _ (a : Access) (us : List Tracker) where
   unfolding meetsNone
   none-past t e k m q = all-past t us (λ (u : Tracker). not (meets a u)) (idle-met a) e k m q
 
-module _ (t x : ℕ) (us : List Tracker) where
-  pub step-5 : t ≤ x → refusal (stepTests t x us) ≡ 5
+module _ (shape : Shape) (x : ℕ) (us : List Tracker) where
+  pub step-5 : shape .t ≤ x → refusal (stepTests shape x us) ≡ 5
   unfolding refusal
-  step-5 h = rw (le-ltb x t h)
+  step-5 h = rw (le-ltb x (shape .t) h)
 
-  pub step-8 : x < t → isIdle (trackerAt us x) ≡ true → refusal (stepTests t x us) ≡ 8
+  pub step-8 : x < shape .t → isIdle (trackerAt us x) ≡ true → refusal (stepTests shape x us) ≡ 8
   unfolding refusal
-  step-8 h q = rw (lt-ltb x t h, q)
+  step-8 h q = rw (lt-ltb x (shape .t) h, q)
 
-  pub step-0 : x < t → isIdle (trackerAt us x) ≡ false → refusal (stepTests t x us) ≡ 0
+  pub step-0 : x < shape .t → isIdle (trackerAt us x) ≡ false → refusal (stepTests shape x us) ≡ 0
   unfolding refusal
-  step-0 h q = rw (lt-ltb x t h, q)
+  step-0 h q = rw (lt-ltb x (shape .t) h, q)
 
 module _ (rest : Bool) where
   pub drain-7 : rest ≡ false → refusal (drainTests rest) ≡ 7
@@ -82,11 +83,11 @@ module _ (rest : Bool) where
   unfolding refusal
   drain-0 q = rw q
 
-  module _ (n k : ℕ) where
-    pub show-6 : n ≤ k → refusal (showTests n k rest) ≡ 6
+  module _ (shape : Shape) (k : ℕ) where
+    pub show-6 : shape .n ≤ k → refusal (showTests shape k rest) ≡ 6
     unfolding refusal
-    show-6 h = rw (le-ltb k n h)
+    show-6 h = rw (le-ltb k (shape .n) h)
 
-    pub show-past-6 : k < n → refusal (showTests n k rest) ≡ refusal (drainTests rest)
+    pub show-past-6 : k < shape .n → refusal (showTests shape k rest) ≡ refusal (drainTests rest)
     unfolding refusal
-    show-past-6 h = rw (lt-ltb k n h)
+    show-past-6 h = rw (lt-ltb k (shape .n) h)

@@ -1,5 +1,5 @@
--- Laws of the tests of a whole state: what each comes to where a part of it is known, and that it is the same over any hand.
-use mathlib.Core.Path.{_≡_, refl}
+-- Laws of the tests of a whole state: what each comes to where a part of it is known.
+use mathlib.Core.Path.{_≡_, refl, sym, _∙_}
 use mathlib.Core.List.{List}
 use mathlib.Core.Bool.{Bool, true, false}
 use mathlib.Core.Logic.{⊎-elim}
@@ -8,6 +8,8 @@ use native.Mathlib.Omega.{arith}
 use lib.Dec.{eqb, ltb, leb}
 use lib.ListN.{length, getD, List·getD-eq-default}
 use borrow.Author.Tests.{lt-ltb, le-ltb, le-leb, lt-leb}
+use Rattle.geometry.specs.declared.Shape.{Shape}
+use Rattle.geometry.specs.Shape.{shapeOf}
 use Rattle.geometry.specs.TagMemory.{groups, blocks, mostTrackers}
 use Rattle.laws.specs.Choice.{both, implies, no}
 use Rattle.laws.specs.Scan.{all}
@@ -23,7 +25,7 @@ use Rattle.line.specs.Find.{lineOf}
 use Rattle.line.proofs.Words.{used-is, free-used}
 use Rattle.rules.specs.State.{trackerAt}
 use Rattle.rules.specs.Whole.{limits, mapBlock, holds, lineWhole, phaseWhole, trackerWhole, whole}
-use Rattle.rules.proofs.Whole.{t-most}
+use Rattle.rules.proofs.Whole.{limits-hand, t-most}
 use Rattle.whole.specs.Parts.{stateOf, holderWhole, heldByIt}
 
 both-yes : (a : Bool) → both a true ≡ a
@@ -32,43 +34,43 @@ both-yes true = refl
 both-yes false = refl
 
 -- the holder of a line
-module _ (n t w : ℕ) (ts : List Tracker) where
-  pub holder-none : holder w ≡ 0 → holderWhole n t ts w ≡ true
+module _ (shape : Shape) (w : ℕ) (ts : List Tracker) where
+  pub holder-none : holder w ≡ 0 → holderWhole shape ts w ≡ true
   unfolding holderWhole implies held
   holder-none e = rw e
 
-  pub holder-past : 0 < holder w → t < holder w → holderWhole n t ts w ≡ false
+  pub holder-past : 0 < holder w → shape .t < holder w → holderWhole shape ts w ≡ false
   unfolding holderWhole implies held both
-  holder-past p q = rw (lt-ltb 0 (holder w) p, lt-leb (holder w) t q)
+  holder-past p q = rw (lt-ltb 0 (holder w) p, lt-leb (holder w) (shape .t) q)
 
-  pub holder-is : 0 < holder w → holder w ≤ t → holderWhole n t ts w ≡ holds n (trackerAt ts (holder w - 1)) (blockOf w)
+  pub holder-is : 0 < holder w → holder w ≤ shape .t → holderWhole shape ts w ≡ holds (shape .n) (trackerAt ts (holder w - 1)) (blockOf w)
   unfolding holderWhole implies held both
-  holder-is p q = rw (lt-ltb 0 (holder w) p, le-leb (holder w) t q)
+  holder-is p q = rw (lt-ltb 0 (holder w) p, le-leb (holder w) (shape .t) q)
 
 -- a line
-module _ (n t l : ℕ) (lines : List ℕ) (ts : List Tracker) (i : ℕ) where
-  pub line-free : getD lines i 0 ≡ 0 → lineWhole (stateOf n t l 0 lines ts) i ≡ true
+module _ (shape : Shape) (lines : List ℕ) (ts : List Tracker) (i : ℕ) where
+  pub line-free : getD lines i 0 ≡ 0 → lineWhole (stateOf shape lines ts) i ≡ true
   unfolding lineWhole implies
   line-free e = rw (e, free-used)
 
-  pub line-none : 0 < getD lines i 0 → blocks n ≤ blockOf (getD lines i 0) → lineWhole (stateOf n t l 0 lines ts) i ≡ false
+  pub line-none : 0 < getD lines i 0 → blocks (shape .n) ≤ blockOf (getD lines i 0) → lineWhole (stateOf shape lines ts) i ≡ false
   unfolding lineWhole implies both
-  line-none p q = rw (used-is (getD lines i 0) p, le-ltb (blockOf (getD lines i 0)) (blocks n) q)
+  line-none p q = rw (used-is (getD lines i 0) p, le-ltb (blockOf (getD lines i 0)) (blocks (shape .n)) q)
 
-  pub line-used : 0 < getD lines i 0 → blockOf (getD lines i 0) < blocks n
-      → lineWhole (stateOf n t l 0 lines ts) i ≡ both (eqb (lineOf lines l (blockOf (getD lines i 0))) i) (holderWhole n t ts (getD lines i 0))
+  pub line-used : 0 < getD lines i 0 → blockOf (getD lines i 0) < blocks (shape .n)
+      → lineWhole (stateOf shape lines ts) i ≡ both (eqb (lineOf lines (shape .l) (blockOf (getD lines i 0))) i) (holderWhole shape ts (getD lines i 0))
   unfolding lineWhole implies both holderWhole
-  line-used p q = rw (used-is (getD lines i 0) p, lt-ltb (blockOf (getD lines i 0)) (blocks n) q)
+  line-used p q = rw (used-is (getD lines i 0) p, lt-ltb (blockOf (getD lines i 0)) (blocks (shape .n)) q)
 
 -- a tracker that holds its map block
-module _ (n l : ℕ) (lines : List ℕ) (g x i : ℕ) (e : i ≡ lineOf lines l (mapBlock n g)) where
-  pub not-lined : l ≤ i → heldByIt n l lines g x ≡ false
+module _ (shape : Shape) (lines : List ℕ) (g x i : ℕ) (e : i ≡ lineOf lines (shape .l) (mapBlock (shape .n) g)) where
+  pub not-lined : shape .l ≤ i → heldByIt shape lines g x ≡ false
   unfolding heldByIt both
-  not-lined h = rw (← e, le-ltb i l h)
+  not-lined h = rw (← e, le-ltb i (shape .l) h)
 
-  pub lined : i < l → heldByIt n l lines g x ≡ eqb (holder (getD lines i 0)) (x + 1)
+  pub lined : i < shape .l → heldByIt shape lines g x ≡ eqb (holder (getD lines i 0)) (x + 1)
   unfolding heldByIt both
-  lined h = rw (← e, lt-ltb i l h)
+  lined h = rw (← e, lt-ltb i (shape .l) h)
 
 idle-at : (p : Phase) → isIdleAt p ≡ true → p ≡ Idle
 idle-at Idle h = refl
@@ -79,25 +81,25 @@ idle-at Set h = let z : _≡_ {A = ℕ} 0 1 = cc in absurd (omega arith)
 idle-at Clear h = let z : _≡_ {A = ℕ} 0 1 = cc in absurd (omega arith)
 
 -- a tracker
-module _ (n l : ℕ) (lines : List ℕ) (ts : List Tracker) (x : ℕ) where
-  pub tracker-idle : isIdle (trackerAt ts x) ≡ true → trackerWhole (stateOf n 0 l 0 lines ts) x ≡ true
+module _ (shape : Shape) (lines : List ℕ) (ts : List Tracker) (x : ℕ) where
+  pub tracker-idle : isIdle (trackerAt ts x) ≡ true → trackerWhole (stateOf shape lines ts) x ≡ true
   unfolding trackerWhole implies both no
   tracker-idle h = rw (idle-at (trackerAt ts x .phase) h)
 
-  pub tracker-far : isIdle (trackerAt ts x) ≡ false → groups n ≤ trackerAt ts x .group → trackerWhole (stateOf n 0 l 0 lines ts) x ≡ false
+  pub tracker-far : isIdle (trackerAt ts x) ≡ false → groups (shape .n) ≤ trackerAt ts x .group → trackerWhole (stateOf shape lines ts) x ≡ false
   unfolding trackerWhole implies both no
-  tracker-far h q = rw (h, le-ltb (trackerAt ts x .group) (groups n) q)
+  tracker-far h q = rw (h, le-ltb (trackerAt ts x .group) (groups (shape .n)) q)
 
-  pub tracker-holds : isIdle (trackerAt ts x) ≡ false → trackerAt ts x .group < groups n → holdsAt (trackerAt ts x .phase) ≡ true
-      → trackerWhole (stateOf n 0 l 0 lines ts) x
-      ≡ both (phaseWhole (trackerAt ts x .write) (trackerAt ts x .bottom) (trackerAt ts x .phase)) (heldByIt n l lines (trackerAt ts x .group) x)
+  pub tracker-holds : isIdle (trackerAt ts x) ≡ false → trackerAt ts x .group < groups (shape .n) → holdsAt (trackerAt ts x .phase) ≡ true
+      → trackerWhole (stateOf shape lines ts) x
+      ≡ both (phaseWhole (trackerAt ts x .write) (trackerAt ts x .bottom) (trackerAt ts x .phase)) (heldByIt shape lines (trackerAt ts x .group) x)
   unfolding trackerWhole implies both no heldByIt
-  tracker-holds h q k = rw (h, lt-ltb (trackerAt ts x .group) (groups n) q, k)
+  tracker-holds h q k = rw (h, lt-ltb (trackerAt ts x .group) (groups (shape .n)) q, k)
 
-  pub tracker-loose : isIdle (trackerAt ts x) ≡ false → trackerAt ts x .group < groups n → holdsAt (trackerAt ts x .phase) ≡ false
-      → trackerWhole (stateOf n 0 l 0 lines ts) x ≡ phaseWhole (trackerAt ts x .write) (trackerAt ts x .bottom) (trackerAt ts x .phase)
+  pub tracker-loose : isIdle (trackerAt ts x) ≡ false → trackerAt ts x .group < groups (shape .n) → holdsAt (trackerAt ts x .phase) ≡ false
+      → trackerWhole (stateOf shape lines ts) x ≡ phaseWhole (trackerAt ts x .write) (trackerAt ts x .bottom) (trackerAt ts x .phase)
   unfolding trackerWhole implies both no
-  tracker-loose h q k = rw (h, lt-ltb (trackerAt ts x .group) (groups n) q, k) (both-yes _)
+  tracker-loose h q k = rw (h, lt-ltb (trackerAt ts x .group) (groups (shape .n)) q, k) (both-yes _)
 
 no-used : no (used 0) ≡ true
 unfolding no used
@@ -143,20 +145,24 @@ module _ (t : ℕ) (ts : List Tracker) where
       all-is _ t
       (λ x h. ⊎-elim (λ (q : x < e). all-at _ e a x q) (λ (q : e ≤ x). rw (tracker-past ts x k (omega arith)) i) (lt-or-ge x e))
 
+-- the limits, tested number by number
+pub limits-are : (shape : Shape) {b : Bool} → b ≡ limits (shapeOf (shape .n) (shape .t) (shape .l)) → limits shape ≡ b
+limits-are shape e = sym (limits-hand shape 0) ∙ sym e
+
 -- the whole test, once the limits are known
-module _ (n t l hand : ℕ) (lines : List ℕ) (ts : List Tracker) where
-  pub whole-limits : limits n t l ≡ false → whole (stateOf n t l hand lines ts) ≡ false
+module _ (shape : Shape) (lines : List ℕ) (ts : List Tracker) where
+  pub whole-limits : limits shape ≡ false → whole (stateOf shape lines ts) ≡ false
   unfolding whole both
   whole-limits h = rw h
 
-  pub whole-short : length lines < l → whole (stateOf n t l hand lines ts) ≡ false
+  pub whole-short : length lines < shape .l → whole (stateOf shape lines ts) ≡ false
   unfolding whole
-  whole-short h = both-false-right _ _ (both-false-left _ _ (both-false-left _ _ (lt-leb l (length lines) h)))
+  whole-short h = both-false-right _ _ (both-false-left _ _ (both-false-left _ _ (lt-leb (shape .l) (length lines) h)))
 
-  pub whole-is : limits n t l ≡ true → l ≤ length lines → length ts ≡ mostTrackers
-      → whole (stateOf n t l hand lines ts)
-      ≡ both (ltb hand l)
-      (both (both (all (λ i. implies (leb l i) (no (used (getD lines i 0)))) (length lines)) (all (λ x. implies (leb t x) (isIdle (trackerAt ts x))) 8))
-      (both (all (lineWhole (stateOf n t l 0 lines ts)) l) (all (trackerWhole (stateOf n 0 l 0 lines ts)) t)))
+  pub whole-is : limits shape ≡ true → shape .l ≤ length lines → length ts ≡ mostTrackers
+      → whole (stateOf shape lines ts)
+      ≡ both (ltb (shape .hand) (shape .l))
+      (both (both (all (λ i. implies (leb (shape .l) i) (no (used (getD lines i 0)))) (length lines)) (all (λ x. implies (leb (shape .t) x) (isIdle (trackerAt ts x))) 8))
+      (both (all (lineWhole (stateOf shape lines ts)) (shape .l)) (all (trackerWhole (stateOf shape lines ts)) (shape .t))))
   unfolding whole both lineWhole trackerWhole
-  whole-is h q e = rw (h, le-leb l (length lines) q, e, le-leb t mostTrackers (t-most n t l h))
+  whole-is h q e = rw (h, le-leb (shape .l) (length lines) q, e, le-leb (shape .t) mostTrackers (t-most shape h))

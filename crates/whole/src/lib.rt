@@ -1,6 +1,7 @@
 // 01 "What is refused": whether a state is whole, part by part, on lent lines and a table of trackers; and the refusals of issue, step, drain and show that come after 4 and 2.
 // No public function has a `requires`; the parts of the whole test that come after the limits may rely on them.
 use geometry::Geometry;
+use geometry::Shape;
 use tracker::Access;
 use tracker::Phase;
 use tracker::Tracker;
@@ -11,6 +12,7 @@ ghost use lib.ListN.{length, getD};
 ghost use Rattle.laws.specs.Choice.{both, implies, no};
 ghost use Rattle.laws.specs.Refusal.{refusal};
 ghost use Rattle.laws.specs.Scan.{all};
+ghost use Rattle.geometry.specs.Shape.{shapeOf};
 ghost use Rattle.geometry.specs.TagMemory.{mostLeaves, mostTrackers};
 ghost use Rattle.tracker.specs.Tracker.{holdsAt, isIdle};
 ghost use Rattle.line.specs.Word.{used};
@@ -21,7 +23,7 @@ ghost use Rattle.whole.specs.Parts.{stateOf, holderWhole, heldByIt};
 
 // n, T and L are in the limits.
 pub fn limits(n: u64, t: u64, l: u64) -> bool
-    ensures { λ r. ⌜ r ≡ limits n t l ⌝ }
+    ensures { λ r. ⌜ r ≡ limits (shapeOf n t l) ⌝ }
 {
     both(
         Geometry::in_limits(n),
@@ -63,63 +65,56 @@ fn holds(n: u32, t: Tracker, b: u32) -> bool
     )
 }
 
-// A line that names a holder names a tracker, of t, that holds its block.
-fn holder_whole(n: u32, t: u32, w: u32, trackers: [Tracker; Geometry::MOST_TRACKERS]) -> bool
-    requires { ⌜ t ≤ mostTrackers ⌝ }
-    ensures { λ r. ⌜ r ≡ holderWhole n t trackers w ⌝ }
+// A line that names a holder names one of the T trackers, and it holds the line's block.
+fn holder_whole(shape: Shape, w: u32, trackers: [Tracker; Geometry::MOST_TRACKERS]) -> bool
+    requires { ⌜ shape .t ≤ mostTrackers ⌝ }
+    ensures { λ r. ⌜ r ≡ holderWhole shape trackers w ⌝ }
 {
     let h = line::holder(w);
     if h == 0 {
         return true;
     }
-    if t < h {
+    if shape.t < h {
         return false;
     }
     let x = (h - 1) as usize;
     let tracker = trackers[x];
-    holds(n, tracker, line::block_of(w))
+    holds(shape.n, tracker, line::block_of(w))
 }
 
-// Line i of l, which the row has: its block exists and has no other line, and its holder holds it.
+// Line i of L, which the row has: its block exists and has no other line, and its holder holds it.
 fn line_whole(
-    n: u32,
-    t: u32,
-    l: usize,
+    shape: Shape,
     lines: &[u32],
     trackers: [Tracker; Geometry::MOST_TRACKERS],
     i: usize,
 ) -> bool
-    requires { ⌜ (t ≤ mostTrackers) × (i < length (now lines)) ⌝ }
-    ensures { λ r. ⌜ r ≡ lineWhole (stateOf n t l 0 (now (lines .entry)) trackers) i ⌝ }
+    requires { ⌜ (shape .t ≤ mostTrackers) × (i < length (now lines)) ⌝ }
+    ensures { λ r. ⌜ r ≡ lineWhole (stateOf shape (now (lines .entry)) trackers) i ⌝ }
 {
     let w = lines[i];
     if w == 0 {
         return true;
     }
     let b = line::block_of(w);
-    if Geometry::blocks(n) <= b as u64 {
+    if Geometry::blocks(shape.n) <= b as u64 {
         return false;
     }
     both(
-        line::line_of(lines, l, b) == i,
-        holder_whole(n, t, w, trackers),
+        line::line_of(lines, shape.l, b) == i,
+        holder_whole(shape, w, trackers),
     )
 }
 
-// Each of the l lines, which the row has.
-fn lines_whole(
-    n: u32,
-    t: u32,
-    l: usize,
-    lines: &[u32],
-    trackers: [Tracker; Geometry::MOST_TRACKERS],
-) -> bool
-    requires { ⌜ (t ≤ mostTrackers) × (l ≤ length (now lines)) ⌝ }
-    ensures { λ r. ⌜ r ≡ all (lineWhole (stateOf n t l 0 (now (lines .entry)) trackers)) l ⌝ }
+// Each of the L lines, which the row has.
+fn lines_whole(shape: Shape, lines: &[u32], trackers: [Tracker; Geometry::MOST_TRACKERS]) -> bool
+    requires { ⌜ (shape .t ≤ mostTrackers) × (shape .l ≤ length (now lines)) ⌝ }
+    ensures { λ r. ⌜ r ≡ all (lineWhole (stateOf shape (now (lines .entry)) trackers)) (shape .l) ⌝ }
 {
+    let l = shape.l;
     let mut i: usize = 0;
     while i < l {
-        if line_whole(n, t, l, lines, trackers, i) {
+        if line_whole(shape, lines, trackers, i) {
             i += 1;
         } else {
             return false;
@@ -142,12 +137,13 @@ fn phase_whole(phase: Phase, write: bool, bottom: bool) -> bool
     }
 }
 
-// The map block of group g is in one of l lines, which names tracker x as its holder.
-fn held_by_it(n: u32, l: usize, lines: &[u32], g: u32, x: usize) -> bool
-    requires { ⌜ (n ≤ mostLeaves) × (l ≤ length (now lines)) × (x < mostTrackers) ⌝ }
-    ensures { λ r. ⌜ r ≡ heldByIt n l (now (lines .entry)) g x ⌝ }
+// The map block of group g is in one of L lines, which names tracker x as its holder.
+fn held_by_it(shape: Shape, lines: &[u32], g: u32, x: usize) -> bool
+    requires { ⌜ (shape .n ≤ mostLeaves) × (shape .l ≤ length (now lines)) × (x < mostTrackers) ⌝ }
+    ensures { λ r. ⌜ r ≡ heldByIt shape (now (lines .entry)) g x ⌝ }
 {
-    let b = Geometry::map_number(n, Geometry::leaf_of(g)) as u32;
+    let b = Geometry::map_number(shape.n, Geometry::leaf_of(g)) as u32;
+    let l = shape.l;
     let i = line::line_of(lines, l, b);
     if l <= i {
         return false;
@@ -157,48 +153,41 @@ fn held_by_it(n: u32, l: usize, lines: &[u32], g: u32, x: usize) -> bool
 
 // Tracker x: its group exists, its phase is as it must be, and it is the holder of the map block that it holds.
 fn tracker_whole(
-    n: u32,
-    l: usize,
+    shape: Shape,
     lines: &[u32],
     trackers: [Tracker; Geometry::MOST_TRACKERS],
     x: usize,
 ) -> bool
-    requires { ⌜ (n ≤ mostLeaves) × (l ≤ length (now lines)) × (x < mostTrackers) ⌝ }
-    ensures { λ r. ⌜ r ≡ trackerWhole (stateOf n 0 l 0 (now (lines .entry)) trackers) x ⌝ }
+    requires { ⌜ (shape .n ≤ mostLeaves) × (shape .l ≤ length (now lines)) × (x < mostTrackers) ⌝ }
+    ensures { λ r. ⌜ r ≡ trackerWhole (stateOf shape (now (lines .entry)) trackers) x ⌝ }
 {
     let t = trackers[x];
     if t.is_idle() {
         return true;
     }
-    if Geometry::groups(n) <= t.group as u64 {
+    if Geometry::groups(shape.n) <= t.group as u64 {
         return false;
     }
     let phase = t.phase;
     if holds_at(phase) {
         both(
             phase_whole(phase, t.write, t.bottom),
-            held_by_it(n, l, lines, t.group, x),
+            held_by_it(shape, lines, t.group, x),
         )
     } else {
         phase_whole(phase, t.write, t.bottom)
     }
 }
 
-// Each of the t trackers.
-fn trackers_whole(
-    n: u32,
-    t: u32,
-    l: usize,
-    lines: &[u32],
-    trackers: [Tracker; Geometry::MOST_TRACKERS],
-) -> bool
-    requires { ⌜ (n ≤ mostLeaves) × (t ≤ mostTrackers) × (l ≤ length (now lines)) ⌝ }
-    ensures { λ r. ⌜ r ≡ all (trackerWhole (stateOf n 0 l 0 (now (lines .entry)) trackers)) t ⌝ }
+// Each of the T trackers.
+fn trackers_whole(shape: Shape, lines: &[u32], trackers: [Tracker; Geometry::MOST_TRACKERS]) -> bool
+    requires { ⌜ (shape .n ≤ mostLeaves) × (shape .t ≤ mostTrackers) × (shape .l ≤ length (now lines)) ⌝ }
+    ensures { λ r. ⌜ r ≡ all (trackerWhole (stateOf shape (now (lines .entry)) trackers)) (shape .t) ⌝ }
 {
-    let end = t as usize;
+    let end = shape.t as usize;
     let mut x: usize = 0;
     while x < end {
-        if tracker_whole(n, l, lines, trackers, x) {
+        if tracker_whole(shape, lines, trackers, x) {
             x += 1;
         } else {
             return false;
@@ -240,28 +229,22 @@ fn rest_idle(t: u32, trackers: [Tracker; Geometry::MOST_TRACKERS]) -> bool
 }
 
 // The state with these parts is whole.
-pub fn whole(
-    n: u32,
-    t: u32,
-    l: usize,
-    hand: usize,
-    lines: &[u32],
-    trackers: [Tracker; Geometry::MOST_TRACKERS],
-) -> bool
-    ensures { λ r. ⌜ r ≡ whole (stateOf n t l hand (now (lines .entry)) trackers) ⌝ }
+pub fn whole(shape: Shape, lines: &[u32], trackers: [Tracker; Geometry::MOST_TRACKERS]) -> bool
+    ensures { λ r. ⌜ r ≡ whole (stateOf shape (now (lines .entry)) trackers) ⌝ }
 {
-    if !limits(n as u64, t as u64, l as u64) {
+    let l = shape.l;
+    if !limits(shape.n as u64, shape.t as u64, l as u64) {
         return false;
     }
     if lines.len() < l {
         return false;
     }
-    let rest = both(rest_free(l, lines), rest_idle(t, trackers));
+    let rest = both(rest_free(l, lines), rest_idle(shape.t, trackers));
     let rows = both(
-        lines_whole(n, t, l, lines, trackers),
-        trackers_whole(n, t, l, lines, trackers),
+        lines_whole(shape, lines, trackers),
+        trackers_whole(shape, lines, trackers),
     );
-    both(hand < l, both(rest, rows))
+    both(shape.hand < l, both(rest, rows))
 }
 
 // Each of the t trackers is idle; those past the table are.
@@ -328,24 +311,23 @@ fn meets_none(t: u32, access: Access, trackers: [Tracker; Geometry::MOST_TRACKER
 
 // The refusal of an issue that comes after 4 and 2: 5, 6, 7, 13; 0 if none.
 pub fn issue_refusal(
-    n: u32,
-    t: u32,
+    shape: Shape,
     x: u64,
     access: Access,
     trackers: [Tracker; Geometry::MOST_TRACKERS],
 ) -> u8
-    ensures { λ r. ⌜ r ≡ refusal (issueTests n t x access trackers) ⌝ }
+    ensures { λ r. ⌜ r ≡ refusal (issueTests shape x access trackers) ⌝ }
 {
-    if t as u64 <= x {
+    if shape.t as u64 <= x {
         return 5;
     }
-    if Geometry::groups(n) <= access.group as u64 {
+    if Geometry::groups(shape.n) <= access.group as u64 {
         return 6;
     }
     if !idle_at(trackers, x) {
         return 7;
     }
-    if meets_none(t, access, trackers) {
+    if meets_none(shape.t, access, trackers) {
         0
     } else {
         13
@@ -353,28 +335,28 @@ pub fn issue_refusal(
 }
 
 // The refusal of a step that comes after 4 and 2: 5, 8; 0 if none.
-pub fn step_refusal(t: u32, x: u64, trackers: [Tracker; Geometry::MOST_TRACKERS]) -> u8
-    ensures { λ r. ⌜ r ≡ refusal (stepTests t x trackers) ⌝ }
+pub fn step_refusal(shape: Shape, x: u64, trackers: [Tracker; Geometry::MOST_TRACKERS]) -> u8
+    ensures { λ r. ⌜ r ≡ refusal (stepTests shape x trackers) ⌝ }
 {
-    if t as u64 <= x {
+    if shape.t as u64 <= x {
         return 5;
     }
     if idle_at(trackers, x) { 8 } else { 0 }
 }
 
 // The refusal of a drain that comes after 4 and 2: 7; 0 if none.
-pub fn drain_refusal(t: u32, trackers: [Tracker; Geometry::MOST_TRACKERS]) -> u8
-    ensures { λ r. ⌜ r ≡ refusal (drainTests (all (λ x. isIdle (trackerAt trackers x)) t)) ⌝ }
+pub fn drain_refusal(shape: Shape, trackers: [Tracker; Geometry::MOST_TRACKERS]) -> u8
+    ensures { λ r. ⌜ r ≡ refusal (drainTests (all (λ x. isIdle (trackerAt trackers x)) (shape .t))) ⌝ }
 {
-    if all_idle(t, trackers) { 0 } else { 7 }
+    if all_idle(shape.t, trackers) { 0 } else { 7 }
 }
 
 // The refusal of showing leaf k that comes after 4 and 2: 6, 7; 0 if none.
-pub fn show_refusal(n: u32, t: u32, k: u64, trackers: [Tracker; Geometry::MOST_TRACKERS]) -> u8
-    ensures { λ r. ⌜ r ≡ refusal (showTests n k (all (λ x. isIdle (trackerAt trackers x)) t)) ⌝ }
+pub fn show_refusal(shape: Shape, k: u64, trackers: [Tracker; Geometry::MOST_TRACKERS]) -> u8
+    ensures { λ r. ⌜ r ≡ refusal (showTests shape k (all (λ x. isIdle (trackerAt trackers x)) (shape .t))) ⌝ }
 {
-    if n as u64 <= k {
+    if shape.n as u64 <= k {
         return 6;
     }
-    drain_refusal(t, trackers)
+    drain_refusal(shape, trackers)
 }

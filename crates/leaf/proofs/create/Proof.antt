@@ -38,7 +38,7 @@ same-length-2 c = search needs
 returns : tie.Need-returns
 returns c =
     let a = c .before .before .before .before .before .before .before .before .before .before .before .args in
-    λ m. by-rule (created (a .i) (a .hand) _ _ (a .t) (a .lines .now) (a .bytes .now) _ m _ (c .before .before .before .before .before .before .before .leaf-of .ensures) (c .before .before .before .before .before .before .word .ensures) (c .before .before .before .before .before .before .before .before .new-leaf .ensures) (c .before .before .before .write-block .ensures)) (c .goes .ensures _ _ m)
+    λ m. by-rule (created (a .i) (a .shape) _ _ (a .t) (a .lines .now) (a .bytes .now) _ m _ (c .before .before .before .before .before .before .before .leaf-of .ensures) (c .before .before .before .before .before .before .word .ensures) (c .before .before .before .before .before .before .before .before .new-leaf .ensures) (c .before .before .before .write-block .ensures)) (c .goes .ensures _ _ m)
 
 pub create-spec : {M : Type 1} → statement M
 create-spec = tie.close (tie.spec new-leaf-requires leaf-of-requires word-requires mul-lines slice-write-lines mul-write-block write-block-requires goes-requires same-length same-length-2 returns)

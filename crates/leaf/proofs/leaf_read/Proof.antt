@@ -25,7 +25,7 @@ same-length-3 : tie.Need-same-length-3
 same-length-3 c = search needs
 
 returns : tie.Need-returns
-returns c = by-rule (leafRead-none _ _ _ _ _ _ _ _ (c .before .before .before .before .before .before .before .before .before .before .before .before .leaf-of .ensures) _ _ _ _ _ (c .before .before .before .before .before .before .before .before .bring-in .ensures) (omega arith)) (c .refuses .ensures _ _ _)
+returns c = by-rule (leafRead-none _ _ _ _ _ _ _ (c .before .before .before .before .before .before .before .before .before .before .before .before .leaf-of .ensures) _ _ _ _ _ (c .before .before .before .before .before .before .before .before .bring-in .ensures) (omega arith)) (c .refuses .ensures _ _ _)
 
 group-in-requires : tie.Need-group-in-requires
 group-in-requires c κs = search needs
@@ -47,7 +47,7 @@ same-length-6 c = search needs
 
 returns-2 : tie.Need-returns-2
 returns-2 c =
-    by-rule (leafRead-ends _ _ _ _ _ _ _ _ (c .before .before .before .before .before .before .before .before .before .before .before .before .before .before .before .before .before .before .leaf-of .ensures) _ _ _ _ _ (c .before .before .before .before .before .before .before .before .before .before .before .before .before .before .bring-in .ensures) _ _ (omega arith) (c .before .before .before .before .before .group-in .ensures) (c .before .before .before .let-go .ensures))
+    by-rule (leafRead-ends _ _ _ _ _ _ _ (c .before .before .before .before .before .before .before .before .before .before .before .before .before .before .before .before .before .before .leaf-of .ensures) _ _ _ _ _ (c .before .before .before .before .before .before .before .before .before .before .before .before .before .before .bring-in .ensures) _ _ (omega arith) (c .before .before .before .before .before .group-in .ensures) (c .before .before .before .let-go .ensures))
     (c .ends-read .ensures _ _ _)
 
 pub leaf-read-spec : {M : Type 1} → statement M

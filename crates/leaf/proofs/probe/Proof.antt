@@ -18,7 +18,7 @@ refuses-requires : tie.Need-refuses-requires
 refuses-requires c κs = search needs
 
 returns : tie.Need-returns
-returns c = λ m. by-rule (probeOn-misfit _ _ _ _ (sym (c .before .before .rows-fit .ensures) ∙ not-true _ (c .before .if1 .taken))) (c .refuses .ensures _ _ m)
+returns c = λ m. by-rule (probeOn-misfit _ _ _ (sym (c .before .before .rows-fit .ensures) ∙ not-true _ (c .before .if1 .taken))) (c .refuses .ensures _ _ m)
 
 leaf-of-requires : tie.Need-leaf-of-requires
 leaf-of-requires c κs = search needs
@@ -31,13 +31,13 @@ goes-requires c κs = search needs
 
 returns-2 : tie.Need-returns-2
 returns-2 c =
-    λ m. by-rule (probeOn-fit _ _ _ _ (sym (c .before .before .before .before .before .rows-fit .ensures) ∙ not-false _ (c .before .before .before .before .if1 .left)) ∙ probe-none _ _ _ _ _ _ (c .before .before .before .leaf-of .ensures) (c .before .before .line-of .ensures) (omega arith))
+    λ m. by-rule (probeOn-fit _ _ _ (sym (c .before .before .before .before .before .rows-fit .ensures) ∙ not-false _ (c .before .before .before .before .if1 .left)) ∙ probe-none _ _ _ _ _ (c .before .before .before .leaf-of .ensures) (c .before .before .line-of .ensures) (omega arith))
     (c .goes .ensures _ _ m)
 
 group-in-requires : tie.Need-group-in-requires
 group-in-requires c κs =
     let a = c .before .before .before .before .before .before .before .args in
-    let f : rowsFit (a .l) (a .lines .now) (a .bytes .now) ≡ true = sym (c .before .before .before .before .rows-fit .ensures) ∙ not-false _ (c .before .before .before .if1 .left) in
+    let f : rowsFit (a .shape .l) (a .lines .now) (a .bytes .now) ≡ true = sym (c .before .before .before .before .rows-fit .ensures) ∙ not-false _ (c .before .before .before .if1 .left) in
     omega (arith, fit-bytes _ _ _ f)
 
 ends-read-requires : tie.Need-ends-read-requires
@@ -45,8 +45,8 @@ ends-read-requires c κs = search needs
 
 returns-3 : tie.Need-returns-3
 returns-3 c =
-    λ m. by-rule (probeOn-fit _ _ _ _ (sym (c .before .before .before .before .before .before .before .before .rows-fit .ensures) ∙ not-false _ (c .before .before .before .before .before .before .before .if1 .left))
-    ∙ probe-read _ _ _ _ _ _ (c .before .before .before .before .before .before .leaf-of .ensures) (c .before .before .before .before .before .line-of .ensures) _ (omega arith) (c .before .before .before .group-in .ensures) (not-true _ (c .before .if3 .taken)))
+    λ m. by-rule (probeOn-fit _ _ _ (sym (c .before .before .before .before .before .before .before .before .rows-fit .ensures) ∙ not-false _ (c .before .before .before .before .before .before .before .if1 .left))
+    ∙ probe-read _ _ _ _ _ (c .before .before .before .before .before .before .leaf-of .ensures) (c .before .before .before .before .before .line-of .ensures) _ (omega arith) (c .before .before .before .group-in .ensures) (not-true _ (c .before .if3 .taken)))
     (c .ends-read .ensures _ _ m)
 
 ends-same-requires : tie.Need-ends-same-requires
@@ -54,8 +54,8 @@ ends-same-requires c κs = search needs
 
 returns-4 : tie.Need-returns-4
 returns-4 c =
-    λ m. by-rule (probeOn-fit _ _ _ _ (sym (c .before .before .before .before .before .before .before .before .before .before .rows-fit .ensures) ∙ not-false _ (c .before .before .before .before .before .before .before .before .before .if1 .left))
-    ∙ probe-same _ _ _ _ _ _ (c .before .before .before .before .before .before .before .before .leaf-of .ensures) (c .before .before .before .before .before .before .before .line-of .ensures) _ (omega arith) (c .before .before .before .before .before .group-in .ensures) (not-false _ (c .before .before .before .if3 .left)) (omega arith))
+    λ m. by-rule (probeOn-fit _ _ _ (sym (c .before .before .before .before .before .before .before .before .before .before .rows-fit .ensures) ∙ not-false _ (c .before .before .before .before .before .before .before .before .before .if1 .left))
+    ∙ probe-same _ _ _ _ _ (c .before .before .before .before .before .before .before .before .leaf-of .ensures) (c .before .before .before .before .before .before .before .line-of .ensures) _ (omega arith) (c .before .before .before .before .before .group-in .ensures) (not-false _ (c .before .before .before .if3 .left)) (omega arith))
     (c .ends-same .ensures _ _ m)
 
 goes-requires-2 : tie.Need-goes-requires-2
@@ -63,8 +63,8 @@ goes-requires-2 c κs = search needs
 
 returns-5 : tie.Need-returns-5
 returns-5 c =
-    λ m. by-rule (probeOn-fit _ _ _ _ (sym (c .before .before .before .before .before .before .before .before .before .before .rows-fit .ensures) ∙ not-false _ (c .before .before .before .before .before .before .before .before .before .if1 .left))
-    ∙ probe-other _ _ _ _ _ _ (c .before .before .before .before .before .before .before .before .leaf-of .ensures) (c .before .before .before .before .before .before .before .line-of .ensures) _ (omega arith) (c .before .before .before .before .before .group-in .ensures) (not-false _ (c .before .before .before .if3 .left)) (omega arith))
+    λ m. by-rule (probeOn-fit _ _ _ (sym (c .before .before .before .before .before .before .before .before .before .before .rows-fit .ensures) ∙ not-false _ (c .before .before .before .before .before .before .before .before .before .if1 .left))
+    ∙ probe-other _ _ _ _ _ (c .before .before .before .before .before .before .before .before .leaf-of .ensures) (c .before .before .before .before .before .before .before .line-of .ensures) _ (omega arith) (c .before .before .before .before .before .group-in .ensures) (not-false _ (c .before .before .before .if3 .left)) (omega arith))
     (c .goes2 .ensures _ _ m)
 
 pub probe-spec : {M : Type 1} → statement M

@@ -16,7 +16,7 @@ same-length : tie.Need-same-length
 same-length c = search needs
 
 returns : tie.Need-returns
-returns c = by-rule (writeUnder0-same _ _ _ _ _ _ _ _ (omega arith) (c .before .before .before .let-go .ensures)) (c .ends-same .ensures _ _ _)
+returns c = by-rule (writeUnder0-same _ _ _ _ _ _ _ (omega arith) (c .before .before .before .let-go .ensures)) (c .ends-same .ensures _ _ _)
 
 leaf-of-requires : tie.Need-leaf-of-requires
 leaf-of-requires c κs = search needs
@@ -34,7 +34,7 @@ same-length-3 : tie.Need-same-length-3
 same-length-3 c = search needs
 
 returns-2 : tie.Need-returns-2
-returns-2 c = by-rule (writeUnder0-lined _ _ _ _ _ _ _ _ _ (omega arith) (c .before .before .before .before .before .before .before .before .before .leaf-of .ensures) (c .before .before .before .before .before .before .before .before .line-of .ensures) (omega arith)) (c .before .before .before .before .create .ensures _)
+returns-2 c = by-rule (writeUnder0-lined _ _ _ _ _ _ _ _ (omega arith) (c .before .before .before .before .before .before .before .before .before .leaf-of .ensures) (c .before .before .before .before .before .before .before .before .line-of .ensures) (omega arith)) (c .before .before .before .before .create .ensures _)
 
 place-requires : tie.Need-place-requires
 place-requires c κs = search needs
@@ -52,7 +52,7 @@ same-length-6 : tie.Need-same-length-6
 same-length-6 c = search needs
 
 returns-3 : tie.Need-returns-3
-returns-3 c = by-rule (writeUnder0-none _ _ _ _ _ _ _ _ _ (omega arith) (c .before .before .before .before .before .before .before .before .before .before .leaf-of .ensures) (c .before .before .before .before .before .before .before .before .before .line-of .ensures) (omega arith) _ _ _ (c .before .before .before .before .place .ensures) (omega arith)) (c .refuses .ensures _ _ _)
+returns-3 c = by-rule (writeUnder0-none _ _ _ _ _ _ _ _ (omega arith) (c .before .before .before .before .before .before .before .before .before .before .leaf-of .ensures) (c .before .before .before .before .before .before .before .before .before .line-of .ensures) (omega arith) _ _ _ (c .before .before .before .before .place .ensures) (omega arith)) (c .refuses .ensures _ _ _)
 
 create-requires-2 : tie.Need-create-requires-2
 create-requires-2 c κs = search needs
@@ -67,7 +67,7 @@ same-length-9 : tie.Need-same-length-9
 same-length-9 c = search needs
 
 returns-4 : tie.Need-returns-4
-returns-4 c = by-rule (writeUnder0-placed _ _ _ _ _ _ _ _ _ (omega arith) (c .before .before .before .before .before .before .before .before .before .before .before .before .before .before .before .before .leaf-of .ensures) (c .before .before .before .before .before .before .before .before .before .before .before .before .before .before .before .line-of .ensures) (omega arith) _ _ _ (c .before .before .before .before .before .before .before .before .before .before .place .ensures) (omega arith)) (c .before .before .before .before .create2 .ensures _)
+returns-4 c = by-rule (writeUnder0-placed _ _ _ _ _ _ _ _ (omega (arith, c .before .before .before .before .before .before .before .before .before .before .before .before .before .before .before .before .before .before .if1 .left)) (c .before .before .before .before .before .before .before .before .before .before .before .before .before .before .before .before .leaf-of .ensures) (c .before .before .before .before .before .before .before .before .before .before .before .before .before .before .before .line-of .ensures) (omega arith) _ _ _ (c .before .before .before .before .before .before .before .before .before .before .place .ensures) (omega arith)) (c .before .before .before .before .create2 .ensures _)
 
 pub write-under-0-spec : {M : Type 1} → statement M
 write-under-0-spec = tie.close (tie.spec let-go-requires ends-same-requires same-length returns leaf-of-requires line-of-requires create-requires same-length-2 same-length-3 returns-2 place-requires refuses-requires same-length-4 same-length-5 same-length-6 returns-3 create-requires-2 same-length-7 same-length-8 same-length-9 returns-4)

@@ -12,7 +12,7 @@ same-length : tie.Need-same-length
 same-length c = search needs
 
 returns : tie.Need-returns
-returns c = bringIn-found _ _ _ _ _ _ _ (c .before .line-of .ensures) (omega arith)
+returns c = bringIn-found _ _ _ _ _ _ (c .before .line-of .ensures) (omega arith)
 
 fetch-requires : tie.Need-fetch-requires
 fetch-requires c κs = search needs
@@ -29,7 +29,7 @@ same-length-4 c = search needs
 returns-2 : tie.Need-returns-2
 returns-2 c =
     let a = c .before .before .before .before .before .before .before .before .before .before .before .before .before .before .before .before .args in
-    rw (bringIn-fetched (a .l) (a .hand) (a .lines .now) (a .bytes .now) (a .memory .now) (a .b) (omega (arith, c .before .before .before .before .before .before .before .before .before .before .before .line-of .ensures))) (c .before .before .before .before .before .before .fetch .ensures)
+    rw (bringIn-fetched (a .shape) (a .lines .now) (a .bytes .now) (a .memory .now) (a .b) (omega (arith, c .before .before .before .before .before .before .before .before .before .before .before .line-of .ensures))) (c .before .before .before .before .before .before .fetch .ensures)
 
 pub bring-in-spec : {M : Type 1} → statement M
 bring-in-spec = tie.close (tie.spec line-of-requires same-length returns fetch-requires same-length-2 same-length-3 same-length-4 returns-2)

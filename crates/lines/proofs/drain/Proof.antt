@@ -20,7 +20,7 @@ returns c = drainedRows-misfit _ _ _ _ (sym (c .before .rows-fit .ensures) ∙ n
 drain-all-requires : tie.Need-drain-all-requires
 drain-all-requires c κs =
     let a = c .before .before .before .before .before .before .before .before .args in
-    let f : rowsFit (a .l) (a .lines .now) (a .bytes .now) ≡ true = sym (c .before .before .before .rows-fit .ensures) ∙ not-false _ (c .before .before .if1 .left) in
+    let f : rowsFit (a .shape .l) (a .lines .now) (a .bytes .now) ≡ true = sym (c .before .before .before .rows-fit .ensures) ∙ not-false _ (c .before .before .if1 .left) in
     (fit-lines _ _ _ f, fit-bytes _ _ _ f)
 
 same-length-2 : tie.Need-same-length-2
@@ -32,7 +32,7 @@ same-length-3 c = search needs
 returns-2 : tie.Need-returns-2
 returns-2 c =
     let a = c .before .before .before .before .before .before .before .before .before .before .before .before .before .args in
-    rw (drainedRows-fit (a .l) (a .lines .now) (a .bytes .now) (a .memory .now) (sym (c .before .before .before .before .before .before .before .before .rows-fit .ensures) ∙ not-false _ (c .before .before .before .before .before .before .before .if1 .left))) (c .before .before .before .before .drain-all .ensures)
+    rw (drainedRows-fit (a .shape) (a .lines .now) (a .bytes .now) (a .memory .now) (sym (c .before .before .before .before .before .before .before .before .rows-fit .ensures) ∙ not-false _ (c .before .before .before .before .before .before .before .if1 .left))) (c .before .before .before .before .drain-all .ensures)
 
 pub drain-spec : {M : Type 1} → statement M
 drain-spec = tie.close (tie.spec rows-fit-requires same-length returns drain-all-requires same-length-2 same-length-3 returns-2)

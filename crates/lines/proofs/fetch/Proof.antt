@@ -18,7 +18,7 @@ same-length-3 : tie.Need-same-length-3
 same-length-3 c = search needs
 
 returns : tie.Need-returns
-returns c = fetched-none _ _ _ _ _ _ _ _ _ (c .before .before .before .place .ensures) (omega arith)
+returns c = fetched-none _ _ _ _ _ _ _ _ (c .before .before .before .place .ensures) (omega arith)
 
 block-place-requires : tie.Need-block-place-requires
 block-place-requires c κs = search needs
@@ -30,13 +30,13 @@ word-requires : tie.Need-word-requires
 word-requires c κs = search needs
 
 mul-lines : tie.Need-mul-lines
-mul-lines c = omega (arith, placed-lines _ _ _ _ _ (line-is (c .before .before .before .before .before .before .before .place .ensures)) (omega arith))
+mul-lines c = omega (arith, placed-lines _ _ _ _ (line-is (c .before .before .before .before .before .before .before .place .ensures)) (omega arith))
 
 slice-write-lines : tie.Need-slice-write-lines
-slice-write-lines c = omega (arith, placed-lines _ _ _ _ _ (line-is (c .before .before .before .before .before .before .before .place .ensures)) (omega arith))
+slice-write-lines c = omega (arith, placed-lines _ _ _ _ (line-is (c .before .before .before .before .before .before .before .place .ensures)) (omega arith))
 
 mul-write-block : tie.Need-mul-write-block
-mul-write-block c = omega (arith, placed-bytes _ _ _ _ _ (line-is (c .before .before .before .before .before .before .before .before .place .ensures)) (omega arith))
+mul-write-block c = omega (arith, placed-bytes _ _ _ _ (line-is (c .before .before .before .before .before .before .before .before .place .ensures)) (omega arith))
 
 write-block-requires : tie.Need-write-block-requires
 write-block-requires c κs = search needs
@@ -51,7 +51,7 @@ same-length-6 : tie.Need-same-length-6
 same-length-6 c = search needs
 
 returns-2 : tie.Need-returns-2
-returns-2 c = fetched-is _ _ _ _ _ _ _ _ _ _ _ _ _ (c .before .before .before .before .before .before .before .before .before .before .before .before .place .ensures) (omega arith) (c .before .before .before .before .before .word .ensures) (c .before .before .before .before .before .before .before .block-place .ensures) (c .before .before .before .before .before .before .read-block .ensures) (c .before .before .write-block .ensures)
+returns-2 c = fetched-is _ _ _ _ _ _ _ _ _ _ _ _ (c .before .before .before .before .before .before .before .before .before .before .before .before .place .ensures) (omega arith) (c .before .before .before .before .before .word .ensures) (c .before .before .before .before .before .before .before .block-place .ensures) (c .before .before .before .before .before .before .read-block .ensures) (c .before .before .write-block .ensures)
 
 pub fetch-spec : {M : Type 1} → statement M
 fetch-spec = tie.close (tie.spec place-requires same-length same-length-2 same-length-3 returns block-place-requires read-block-requires word-requires mul-lines slice-write-lines mul-write-block write-block-requires same-length-4 same-length-5 same-length-6 returns-2)

@@ -56,7 +56,7 @@ cast-plain-group : tie.Need-cast-plain-group
 cast-plain-group c = omega (arith, few (c .before .before))
 
 cast-plain-group-2 : tie.Need-cast-plain-group-2
-cast-plain-group-2 c = omega (arith, c .before .groups .ensures, groups-most (c .before .before .before .before .before .args .n) (few (c .before .before)))
+cast-plain-group-2 c = omega (arith, c .before .groups .ensures, groups-most (c .before .before .before .before .before .args .n) 262144 (few (c .before .before)))
 
 plain-group-requires : tie.Need-plain-group-requires
 plain-group-requires c κs = search needs

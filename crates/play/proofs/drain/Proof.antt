@@ -16,7 +16,7 @@ refuses-requires : tie.Need-refuses-requires
 refuses-requires c κs = search needs
 
 returns : tie.Need-returns
-returns c = by-rule (drain-no _ _ _ _ _ _ _ (c .before .before .drain-refusal .ensures) (omega arith)) (c .refuses .ensures _ _ _)
+returns c = by-rule (drain-no _ _ _ _ _ (c .before .before .drain-refusal .ensures) (omega arith)) (c .refuses .ensures _ _ _)
 
 drain-requires : tie.Need-drain-requires
 drain-requires c κs = search needs
@@ -28,8 +28,8 @@ same-length-2 : tie.Need-same-length-2
 same-length-2 c = search needs
 
 returns-2 : tie.Need-returns-2
-returns-2 c = by-rule (drain-ok _ _ _ _ _ _ _ (c .before .before .before .before .before .before .before .before .drain-refusal .ensures) (omega arith))
-    (let a = c .before .before .before .before .before .before .before .before .before .before .before .before .args in ap (λ (y : Rows). accepts (a .hand) (a .u) y) (c .before .before .before .before .drain .ensures))
+returns-2 c = by-rule (drain-ok _ _ _ _ _ (c .before .before .before .before .before .before .before .before .drain-refusal .ensures) (omega arith))
+    (let a = c .before .before .before .before .before .before .before .before .before .before .before .before .args in ap (λ (y : Rows). accepts (a .shape) (a .u) y) (c .before .before .before .before .drain .ensures))
 
 pub drain-spec : {M : Type 1} → statement M
 drain-spec =

@@ -48,13 +48,13 @@ refuses-requires-2 : tie.Need-refuses-requires-2
 refuses-requires-2 c κs = search needs
 
 returns : tie.Need-returns
-returns c = by-rule (line-new _ _ _ _ _ _ _ (c .before .before .c .given .1)) (c .refuses .ensures _ _ _)
+returns c = by-rule (line-new _ _ _ _ (c .before .before .c .given .1)) (c .refuses .ensures _ _ _)
 
 returns-2 : tie.Need-returns-2
-returns-2 c = by-rule (line-read _ _ _ _ _ _ _ (c .before .before .before .c2 .given .1) (c .before .read-of .ensures)) (c .issue .ensures _ _ _)
+returns-2 c = by-rule (line-read _ _ _ _ (c .before .before .before .c2 .given .1) (c .before .read-of .ensures)) (c .issue .ensures _ _ _)
 
 returns-3 : tie.Need-returns-3
-returns-3 c = by-rule (line-write _ _ _ _ _ _ _ (c .before .before .before .c3 .given .1) (c .before .write-of .ensures)) (c .issue2 .ensures _ _ _)
+returns-3 c = by-rule (line-write _ _ _ _ (c .before .before .before .c3 .given .1) (c .before .write-of .ensures)) (c .issue2 .ensures _ _ _)
 
 same-length : tie.Need-same-length
 same-length c = search needs
@@ -66,7 +66,7 @@ same-length-3 : tie.Need-same-length-3
 same-length-3 c = search needs
 
 returns-4 : tie.Need-returns-4
-returns-4 c = by-rule (line-step _ _ _ _ _ _ _ (c .before .before .before .before .before .before .before .before .before .before .before .c4 .given .1)) (c .before .before .before .before .before .before .one-step .ensures)
+returns-4 c = by-rule (line-step _ _ _ _ (c .before .before .before .before .before .before .before .before .before .before .before .c4 .given .1)) (c .before .before .before .before .before .before .one-step .ensures)
 
 same-length-4 : tie.Need-same-length-4
 same-length-4 c = search needs
@@ -78,10 +78,10 @@ same-length-6 : tie.Need-same-length-6
 same-length-6 c = search needs
 
 returns-5 : tie.Need-returns-5
-returns-5 c = by-rule (line-drain _ _ _ _ _ _ _ (c .before .before .before .before .before .before .before .before .enum-told .given .1)) (c .before .before .before .before .drain .ensures)
+returns-5 c = by-rule (line-drain _ _ _ _ (c .before .before .before .before .before .before .before .before .enum-told .given .1)) (c .before .before .before .before .drain .ensures)
 
 returns-6 : tie.Need-returns-6
-returns-6 c = by-rule (line-bad _ _ _ _ _ _ _ (c .before .enum-told2 .given .1)) (c .refuses2 .ensures _ _ _)
+returns-6 c = by-rule (line-bad _ _ _ _ (c .before .enum-told2 .given .1)) (c .refuses2 .ensures _ _ _)
 
 pub follow-spec : {M : Type 1} → statement M
 follow-spec =

@@ -14,13 +14,13 @@ refuses-requires : tie.Need-refuses-requires
 refuses-requires c κs = search needs
 
 returns : tie.Need-returns
-returns c = λ ls bs m. by-rule (issue-no _ _ _ _ _ _ _ _ _ (c .before .before .issue-refusal .ensures) (omega arith)) (c .refuses .ensures _ _ _)
+returns c = λ ls bs m. by-rule (issue-no _ _ _ _ _ _ _ (c .before .before .issue-refusal .ensures) (omega arith)) (c .refuses .ensures _ _ _)
 
 begin-requires : tie.Need-begin-requires
 begin-requires c κs = search needs
 
 returns-2 : tie.Need-returns-2
-returns-2 c = λ ls bs m. by-rule (issue-ok _ _ _ _ _ _ _ _ _ (c .before .before .issue-refusal .ensures) (omega arith))
+returns-2 c = λ ls bs m. by-rule (issue-ok _ _ _ _ _ _ _ (c .before .before .issue-refusal .ensures) (omega arith))
     (rw (c .begin .ensures) refl)
 
 pub issue-spec : {M : Type 1} → statement M

@@ -13,7 +13,7 @@ refuses-requires : tie.Need-refuses-requires
 refuses-requires c κs = search needs
 
 returns : tie.Need-returns
-returns c = by-rule (step-no _ _ _ _ _ _ _ _ _ (c .before .before .step-refusal .ensures) (omega arith)) (c .refuses .ensures _ _ _)
+returns c = by-rule (step-no _ _ _ _ _ _ (c .before .before .step-refusal .ensures) (omega arith)) (c .refuses .ensures _ _ _)
 
 turn-requires : tie.Need-turn-requires
 turn-requires c κs = search needs
@@ -28,7 +28,7 @@ same-length-3 : tie.Need-same-length-3
 same-length-3 c = search needs
 
 returns-2 : tie.Need-returns-2
-returns-2 c = by-rule (step-ok _ _ _ _ _ _ _ _ _ (c .before .before .before .before .before .before .before .before .before .before .before .step-refusal .ensures) (omega arith)) (c .before .before .before .before .before .before .turn .ensures)
+returns-2 c = by-rule (step-ok _ _ _ _ _ _ (c .before .before .before .before .before .before .before .before .before .before .before .step-refusal .ensures) (omega arith)) (c .before .before .before .before .before .before .turn .ensures)
 
 pub one-step-spec : {M : Type 1} → statement M
 one-step-spec =

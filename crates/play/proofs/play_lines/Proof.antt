@@ -14,12 +14,12 @@ use Rattle.play.proofs.play_lines.Statement.{statement}
 use Rattle.play.proofs.play_lines.Tie as tie
 
 abbrev Inv-loop : tie.InvT-loop
-Inv-loop number input bytes₀ memory₀ output₀ n t l hand₀ lines₀ trackers₀ k₀ at₀ written₀ e₀ bytes memory output hand lines trackers k at written e =
-    Going input (under n t l hand₀ lines₀ trackers₀ bytes₀ memory₀ k₀ 0 output₀ 0) (under n t l hand lines trackers bytes memory k at output written)
+Inv-loop number input bytes₀ memory₀ output₀ shape₀ lines₀ trackers₀ k₀ at₀ written₀ e₀ bytes memory output shape lines trackers k at written e =
+    Going input (under shape₀ lines₀ trackers₀ bytes₀ memory₀ k₀ 0 output₀ 0) (under shape lines trackers bytes memory k at output written)
     × (e ≡ lineEnd input at) × (length lines ≡ 64) × (length trackers ≡ 8) × (length bytes ≡ length bytes₀) × (length memory ≡ length memory₀) × (length output ≡ length output₀)
 
 abbrev μ-loop : tie.MeasureT-loop
-μ-loop number input bytes₀ memory₀ output₀ n t l hand₀ lines₀ trackers₀ k₀ at₀ written₀ e₀ bytes memory output hand lines trackers k at written e =
+μ-loop number input bytes₀ memory₀ output₀ shape₀ lines₀ trackers₀ k₀ at₀ written₀ e₀ bytes memory output shape lines trackers k at written e =
     length input - at
 
 row-requires : tie.Need-row-requires Inv-loop μ-loop
@@ -32,14 +32,14 @@ line-end-requires : tie.Need-line-end-requires Inv-loop μ-loop
 line-end-requires c κs = omega arith
 
 loop-holds : tie.Need-loop-holds Inv-loop μ-loop
-loop-holds c = (going-start _ _ _ _ _ _ _ _ _ _ _ (c .before .before .row .ensures .0) (c .before .table .ensures .0) (c .before .before .before .before .before .before .before .before .before .pre .0) (c .before .before .before .before .before .before .before .before .before .pre .1), c .line-end .ensures, c .before .before .row .ensures .1, c .before .table .ensures .1, refl, refl, refl)
+loop-holds c = (going-start _ _ _ _ _ _ _ _ (c .before .before .row .ensures .0) (c .before .table .ensures .0) (c .before .before .before .before .before .before .before .before .before .before .pre .0) (c .before .before .before .before .before .before .before .before .before .before .pre .1), c .line-end .ensures, c .before .before .row .ensures .1, c .before .table .ensures .1, refl, refl, refl)
 
 goes-on-requires : tie.Need-goes-on-requires Inv-loop μ-loop
 goes-on-requires c κs = search needs
 
 sub-parse : tie.Need-sub-parse Inv-loop μ-loop
 sub-parse c = let k = c .before .before .before .loop in
-    let i = c .before .before .before .before .before .before .before .before .before .before .before .before .before .args .input .now in
+    let i = c .before .before .before .before .before .before .before .before .before .before .before .before .before .before .args .input .now in
     let h = sym (c .before .goes-on .ensures) ∙ c .if1 .taken in
     let b : k .e < length i = tested-end (k .e) i (k .output) (k .written) (k .k) h in
     let m : k .k < 18446744073709551615 = tested-number (k .e) i (k .output) (k .written) (k .k) h in
@@ -48,7 +48,7 @@ sub-parse c = let k = c .before .before .before .loop in
 
 part-parse-start : tie.Need-part-parse-start Inv-loop μ-loop
 part-parse-start c = let k = c .before .before .before .loop in
-    let i = c .before .before .before .before .before .before .before .before .before .before .before .before .before .args .input .now in
+    let i = c .before .before .before .before .before .before .before .before .before .before .before .before .before .before .args .input .now in
     let h = sym (c .before .goes-on .ensures) ∙ c .if1 .taken in
     let b : k .e < length i = tested-end (k .e) i (k .output) (k .written) (k .k) h in
     let m : k .k < 18446744073709551615 = tested-number (k .e) i (k .output) (k .written) (k .k) h in
@@ -57,7 +57,7 @@ part-parse-start c = let k = c .before .before .before .loop in
 
 part-parse-end : tie.Need-part-parse-end Inv-loop μ-loop
 part-parse-end c = let k = c .before .before .before .loop in
-    let i = c .before .before .before .before .before .before .before .before .before .before .before .before .before .args .input .now in
+    let i = c .before .before .before .before .before .before .before .before .before .before .before .before .before .before .args .input .now in
     let h = sym (c .before .goes-on .ensures) ∙ c .if1 .taken in
     let b : k .e < length i = tested-end (k .e) i (k .output) (k .written) (k .k) h in
     let m : k .k < 18446744073709551615 = tested-number (k .e) i (k .output) (k .written) (k .k) h in
@@ -69,7 +69,7 @@ parse-requires c κs = search needs
 
 add-at : tie.Need-add-at Inv-loop μ-loop
 add-at c = let k = c .before .before .before .before .before .loop in
-    let i = c .before .before .before .before .before .before .before .before .before .before .before .before .before .before .before .args .input .now in
+    let i = c .before .before .before .before .before .before .before .before .before .before .before .before .before .before .before .before .args .input .now in
     let h = sym (c .before .before .before .goes-on .ensures) ∙ c .before .before .if1 .taken in
     let b : k .e < length i = tested-end (k .e) i (k .output) (k .written) (k .k) h in
     let m : k .k < 18446744073709551615 = tested-number (k .e) i (k .output) (k .written) (k .k) h in
@@ -78,7 +78,7 @@ add-at c = let k = c .before .before .before .before .before .loop in
 
 line-end-requires-2 : tie.Need-line-end-requires-2 Inv-loop μ-loop
 line-end-requires-2 c κs = let k = c .before .before .before .before .before .loop in
-    let i = c .before .before .before .before .before .before .before .before .before .before .before .before .before .before .before .args .input .now in
+    let i = c .before .before .before .before .before .before .before .before .before .before .before .before .before .before .before .before .args .input .now in
     let h = sym (c .before .before .before .goes-on .ensures) ∙ c .before .before .if1 .taken in
     let b : k .e < length i = tested-end (k .e) i (k .output) (k .written) (k .k) h in
     let m : k .k < 18446744073709551615 = tested-number (k .e) i (k .output) (k .written) (k .k) h in
@@ -87,7 +87,7 @@ line-end-requires-2 c κs = let k = c .before .before .before .before .before .l
 
 add-k : tie.Need-add-k Inv-loop μ-loop
 add-k c = let k = c .before .before .before .before .before .before .loop in
-    let i = c .before .before .before .before .before .before .before .before .before .before .before .before .before .before .before .before .args .input .now in
+    let i = c .before .before .before .before .before .before .before .before .before .before .before .before .before .before .before .before .before .args .input .now in
     let h = sym (c .before .before .before .before .goes-on .ensures) ∙ c .before .before .before .if1 .taken in
     let b : k .e < length i = tested-end (k .e) i (k .output) (k .written) (k .k) h in
     let m : k .k < 18446744073709551615 = tested-number (k .e) i (k .output) (k .written) (k .k) h in
@@ -116,24 +116,24 @@ follow-requires : tie.Need-follow-requires Inv-loop μ-loop
 follow-requires c κs = search needs
 
 mul-trackers : tie.Need-mul-trackers Inv-loop μ-loop
-mul-trackers c = let k = c .before .before .before .before .before .before .before .before .before .before .before .before .before .before .before .before .before .before .loop in
+mul-trackers c = let k = c .before .before .before .before .before .before .before .before .before .before .before .before .before .before .before .before .before .before .before .loop in
     let x = going-named _ (k .inv .0) _ in
-    let y : c .before .before .before .before .before .before .before .before .before .before .before .named .result < 8 = rw (c .before .before .before .before .before .before .before .before .before .before .before .named .ensures) x in
+    let y : c .before .before .before .before .before .before .before .before .before .before .before .before .named .result < 8 = rw (c .before .before .before .before .before .before .before .before .before .before .before .before .named .ensures) x in
     omega arith
 
 array-set-from-trackers : tie.Need-array-set-from-trackers Inv-loop μ-loop
-array-set-from-trackers c = let k = c .before .before .before .before .before .before .before .before .before .before .before .before .before .before .before .before .before .before .loop in
+array-set-from-trackers c = let k = c .before .before .before .before .before .before .before .before .before .before .before .before .before .before .before .before .before .before .before .loop in
     let x = going-named _ (k .inv .0) _ in
-    let y : c .before .before .before .before .before .before .before .before .before .before .before .named .result < 8 = rw (c .before .before .before .before .before .before .before .before .before .before .before .named .ensures) x in
+    let y : c .before .before .before .before .before .before .before .before .before .before .before .before .named .result < 8 = rw (c .before .before .before .before .before .before .before .before .before .before .before .before .named .ensures) x in
     omega arith
 
 put-line-requires : tie.Need-put-line-requires Inv-loop μ-loop
 put-line-requires c κs = search needs
 
 loop-less : tie.Need-loop-less Inv-loop μ-loop
-loop-less c = let k = c .before .before .before .before .before .before .before .before .before .before .before .before .before .before .before .before .before .before .before .before .before .before .loop in
-    let i = c .before .before .before .before .before .before .before .before .before .before .before .before .before .before .before .before .before .before .before .before .before .before .before .before .before .before .before .before .before .before .before .before .args .input .now in
-    let h = sym (c .before .before .before .before .before .before .before .before .before .before .before .before .before .before .before .before .before .before .before .before .goes-on .ensures) ∙ c .before .before .before .before .before .before .before .before .before .before .before .before .before .before .before .before .before .before .before .if1 .taken in
+loop-less c = let k = c .before .before .before .before .before .before .before .before .before .before .before .before .before .before .before .before .before .before .before .before .before .before .before .loop in
+    let i = c .before .before .before .before .before .before .before .before .before .before .before .before .before .before .before .before .before .before .before .before .before .before .before .before .before .before .before .before .before .before .before .before .before .before .args .input .now in
+    let h = sym (c .before .before .before .before .before .before .before .before .before .before .before .before .before .before .before .before .before .before .before .before .before .goes-on .ensures) ∙ c .before .before .before .before .before .before .before .before .before .before .before .before .before .before .before .before .before .before .before .before .if1 .taken in
     let b : k .e < length i = tested-end (k .e) i (k .output) (k .written) (k .k) h in
     let m : k .k < 18446744073709551615 = tested-number (k .e) i (k .output) (k .written) (k .k) h in
     let f : k .at ≤ lineEnd i (k .at) = lineEnd-from i (k .at) in
@@ -141,11 +141,11 @@ loop-less c = let k = c .before .before .before .before .before .before .before 
 
 loop-again : tie.Need-loop-again Inv-loop μ-loop
 unfolding part
-loop-again c = let k = c .before .before .before .before .before .before .before .before .before .before .before .before .before .before .before .before .before .before .before .before .before .before .loop in
-    let a = c .before .before .before .before .before .before .before .before .before .before .before .before .before .before .before .before .before .before .before .before .before .before .before .before .before .before .before .before .before .before .before .before .args in
+loop-again c = let k = c .before .before .before .before .before .before .before .before .before .before .before .before .before .before .before .before .before .before .before .before .before .before .before .loop in
+    let a = c .before .before .before .before .before .before .before .before .before .before .before .before .before .before .before .before .before .before .before .before .before .before .before .before .before .before .before .before .before .before .before .before .before .before .args in
     let i = a .input .now in
-    let on : goesOn i (under (a .state .n) (a .state .t) (a .state .l) (k .hand) (k .lines) (k .trackers) (k .bytes) (k .memory) (k .k) (k .at) (k .output) (k .written)) ≡ true = sym (on-is i (under (a .state .n) (a .state .t) (a .state .l) (k .hand) (k .lines) (k .trackers) (k .bytes) (k .memory) (k .k) (k .at) (k .output) (k .written)) (k .e) (k .inv .1)) ∙ sym (c .before .before .before .before .before .before .before .before .before .before .before .before .before .before .before .before .before .before .before .before .goes-on .ensures) ∙ c .before .before .before .before .before .before .before .before .before .before .before .before .before .before .before .before .before .before .before .if1 .taken in
-    (going-line i _ _ _ _ _ _ _ _ _ (k .at) _ _ (k .e) _ _ (c .before .before .before .before .before .before .before .before .before .before .follow .result) (k .inv .0) on (k .inv .1) (c .before .before .before .before .before .before .before .before .before .before .before .before .before .before .before .before .before .parse .ensures) (c .before .before .before .before .before .before .before .before .before .before .before .before .before .before .before .named .ensures) (c .before .before .before .before .before .before .before .before .before .before .follow .ensures) (c .before .before .put-line .ensures .0) (c .before .before .put-line .ensures .1), c .before .before .before .before .before .before .before .before .before .before .before .before .before .before .before .before .line-end2 .ensures, search needs, search needs, search needs, search needs, search needs)
+    let on : goesOn i (under (k .shape) (k .lines) (k .trackers) (k .bytes) (k .memory) (k .k) (k .at) (k .output) (k .written)) ≡ true = sym (on-is i (under (k .shape) (k .lines) (k .trackers) (k .bytes) (k .memory) (k .k) (k .at) (k .output) (k .written)) (k .e) (k .inv .1)) ∙ sym (c .before .before .before .before .before .before .before .before .before .before .before .before .before .before .before .before .before .before .before .before .before .goes-on .ensures) ∙ c .before .before .before .before .before .before .before .before .before .before .before .before .before .before .before .before .before .before .before .before .if1 .taken in
+    (going-line i _ _ _ _ _ _ (k .at) _ _ (k .e) _ _ (c .before .before .before .before .before .before .before .before .before .before .before .follow .result) (k .inv .0) on (k .inv .1) (c .before .before .before .before .before .before .before .before .before .before .before .before .before .before .before .before .before .before .parse .ensures) (c .before .before .before .before .before .before .before .before .before .before .before .before .before .before .before .before .named .ensures) (c .before .before .before .before .before .before .before .before .before .before .before .follow .ensures) (c .before .before .put-line .ensures .0) (c .before .before .put-line .ensures .1), c .before .before .before .before .before .before .before .before .before .before .before .before .before .before .before .before .before .line-end2 .ensures, search needs, search needs, search needs, search needs, search needs)
 
 same-length : tie.Need-same-length Inv-loop μ-loop
 same-length c = search needs
@@ -158,10 +158,10 @@ same-length-3 c = search needs
 
 returns : tie.Need-returns Inv-loop μ-loop
 returns c = let k = c .before .before .before .loop in
-    let a = c .before .before .before .before .before .before .before .before .before .before .before .before .before .args in
+    let a = c .before .before .before .before .before .before .before .before .before .before .before .before .before .before .args in
     let i = a .input .now in
-    let on : goesOn i (under (a .state .n) (a .state .t) (a .state .l) (k .hand) (k .lines) (k .trackers) (k .bytes) (k .memory) (k .k) (k .at) (k .output) (k .written)) ≡ false = sym (on-is i (under (a .state .n) (a .state .t) (a .state .l) (k .hand) (k .lines) (k .trackers) (k .bytes) (k .memory) (k .k) (k .at) (k .output) (k .written)) (k .e) (k .inv .1)) ∙ sym (c .before .goes-on .ensures) ∙ c .if1 .left in
-    going-stops i _ _ _ _ _ _ _ _ _ _ (c .before .before .before .before .before .before .row .ensures .0) (c .before .before .before .before .before .table .ensures .0) (k .inv .0) on
+    let on : goesOn i (under (k .shape) (k .lines) (k .trackers) (k .bytes) (k .memory) (k .k) (k .at) (k .output) (k .written)) ≡ false = sym (on-is i (under (k .shape) (k .lines) (k .trackers) (k .bytes) (k .memory) (k .k) (k .at) (k .output) (k .written)) (k .e) (k .inv .1)) ∙ sym (c .before .goes-on .ensures) ∙ c .if1 .left in
+    going-stops i _ _ _ _ _ _ _ (c .before .before .before .before .before .before .row .ensures .0) (c .before .before .before .before .before .table .ensures .0) (k .inv .0) on
 
 pub play-lines-spec : {M : Type 1} → statement M
 play-lines-spec =

@@ -4,7 +4,8 @@ use mathlib.Core.Bool.{not}
 use Prim.Native.Nat.{_*_, _≤_, _<_}
 use native.Mathlib.Omega.{arith}
 use Rattle.geometry.specs.TagMemory.{groups}
-use Rattle.geometry.proofs.Groups.{groupPlace-is, blockPlace-groups, groups-most}
+use Rattle.geometry.proofs.Groups.{groupPlace-is, blockPlace-groups}
+use Rattle.geometry.proofs.Places.{groups-most}
 use Rattle.prediction.proofs.RunsOf.{run-starts}
 use Rattle.prediction.proofs.Groups.{anyIn-cut}
 use borrow.Author.Needs.{needs}

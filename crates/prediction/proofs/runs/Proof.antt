@@ -2,7 +2,7 @@
 use mathlib.Core.Path.{ap}
 use Prim.Native.Nat.{ℕ, _+_, _-_, _/_}
 use native.Mathlib.Omega.{arith}
-use Rattle.geometry.proofs.Groups.{groups-most}
+use Rattle.geometry.proofs.Places.{groups-most}
 use Rattle.prediction.specs.Runs.{runs}
 use borrow.Author.Needs.{needs}
 use Rattle.prediction.proofs.runs.Statement.{statement}

@@ -23,8 +23,8 @@ slice-aggregate-parse c = simp length-take (omega arith)
 parse-requires : tie.Need-parse-requires
 parse-requires c κs = search needs
 
-shape-of-requires : tie.Need-shape-of-requires
-shape-of-requires c κs = search needs
+room-of-requires : tie.Need-room-of-requires
+room-of-requires c κs = search needs
 
 bytes-cut-requires : tie.Need-bytes-cut-requires
 bytes-cut-requires c κs = search needs
@@ -78,7 +78,7 @@ first-spec =
     add-taken
     slice-aggregate-parse
     parse-requires
-    shape-of-requires
+    room-of-requires
     bytes-cut-requires
     memory-cut-requires
     slice-reshare-prefix-begin

@@ -44,7 +44,7 @@ finishes-requires-2 : tie.Need-finishes-requires-2
 finishes-requires-2 c κs = search needs
 
 returns : tie.Need-returns
-returns c = by-rule (at-phase _ _ _ _ _ _ (c .before .enum-told .given .1)) (c .refuses .ensures _ _ _)
+returns c = by-rule (at-phase _ _ _ _ (c .before .enum-told .given .1)) (c .refuses .ensures _ _ _)
 
 same-length : tie.Need-same-length
 same-length c = search needs
@@ -53,7 +53,7 @@ same-length-2 : tie.Need-same-length-2
 same-length-2 c = search needs
 
 returns-2 : tie.Need-returns-2
-returns-2 c = by-rule (at-probe _ _ _ _ _ _ (rows-fit _ _ _ (omega arith) (omega arith)) (c .before .before .before .enum-told2 .given .1)) (c .probe .ensures _)
+returns-2 c = by-rule (at-probe _ _ _ _ (rows-fit _ _ _ (omega arith) (omega arith)) (c .before .before .before .enum-told2 .given .1)) (c .probe .ensures _)
 
 same-length-3 : tie.Need-same-length-3
 same-length-3 c = search needs
@@ -65,7 +65,7 @@ same-length-5 : tie.Need-same-length-5
 same-length-5 c = search needs
 
 returns-3 : tie.Need-returns-3
-returns-3 c = by-rule (at-phase _ _ _ _ _ _ (c .before .before .before .before .before .before .before .before .before .before .enum-told3 .given .1)) (c .before .before .before .before .before .before .map .ensures)
+returns-3 c = by-rule (at-phase _ _ _ _ (c .before .before .before .before .before .before .before .before .before .before .enum-told3 .given .1)) (c .before .before .before .before .before .before .map .ensures)
 
 same-length-6 : tie.Need-same-length-6
 same-length-6 c = search needs
@@ -77,7 +77,7 @@ same-length-8 : tie.Need-same-length-8
 same-length-8 c = search needs
 
 returns-4 : tie.Need-returns-4
-returns-4 c = by-rule (at-phase _ _ _ _ _ _ (c .before .before .before .before .before .before .before .before .before .before .enum-told4 .given .1)) (c .before .before .before .before .before .before .at-leaf .ensures)
+returns-4 c = by-rule (at-phase _ _ _ _ (c .before .before .before .before .before .before .before .before .before .before .enum-told4 .given .1)) (c .before .before .before .before .before .before .at-leaf .ensures)
 
 same-length-9 : tie.Need-same-length-9
 same-length-9 c = search needs
@@ -86,7 +86,7 @@ same-length-10 : tie.Need-same-length-10
 same-length-10 c = search needs
 
 returns-5 : tie.Need-returns-5
-returns-5 c = by-rule (at-phase _ _ _ _ _ _ (c .before .before .before .before .before .before .before .enum-told5 .given .1)) (c .before .before .before .before .finishes .ensures _)
+returns-5 c = by-rule (at-phase _ _ _ _ (c .before .before .before .before .before .before .before .enum-told5 .given .1)) (c .before .before .before .before .finishes .ensures _)
 
 same-length-11 : tie.Need-same-length-11
 same-length-11 c = search needs
@@ -95,7 +95,7 @@ same-length-12 : tie.Need-same-length-12
 same-length-12 c = search needs
 
 returns-6 : tie.Need-returns-6
-returns-6 c = by-rule (at-phase _ _ _ _ _ _ (c .before .before .before .before .before .before .before .enum-told6 .given .1)) (c .before .before .before .before .finishes2 .ensures _)
+returns-6 c = by-rule (at-phase _ _ _ _ (c .before .before .before .before .before .before .before .enum-told6 .given .1)) (c .before .before .before .before .finishes2 .ensures _)
 
 pub by-phase-spec : {M : Type 1} → statement M
 by-phase-spec = tie.close (tie.spec enum-told refuses-requires enum-told-2 probe-requires enum-told-3 map-requires enum-told-4 at-leaf-requires enum-told-5 finishes-requires enum-told-6 finishes-requires-2 returns same-length same-length-2 returns-2 same-length-3 same-length-4 same-length-5 returns-3 same-length-6 same-length-7 same-length-8 returns-4 same-length-9 same-length-10 returns-5 same-length-11 same-length-12 returns-6)

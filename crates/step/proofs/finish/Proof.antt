@@ -48,7 +48,7 @@ same-length-2 c = search needs
 
 returns : tie.Need-returns
 returns c =
-    λ m. by-rule (finish-is _ _ _ _ _ _ _ _ _ _ _ _ _ m (c .before .before .before .before .before .before .before .before .before .leaf-of .ensures) (c .before .before .before .before .before .before .before .map-byte-of .ensures) (c .before .before .before .before .before .before .map-bit-of .ensures) (c .before .before .map-block .ensures) (c .before .word .ensures) (c .before .before .before .before .before .put-bit .ensures))
+    λ m. by-rule (finish-is _ _ _ _ _ _ _ _ _ _ _ _ m (c .before .before .before .before .before .before .before .before .before .leaf-of .ensures) (c .before .before .before .before .before .before .before .map-byte-of .ensures) (c .before .before .before .before .before .before .map-bit-of .ensures) (c .before .before .map-block .ensures) (c .before .word .ensures) (c .before .before .before .before .before .put-bit .ensures))
     (c .ends-done .ensures _ _ m)
 
 pub finish-spec : {M : Type 1} → statement M

@@ -19,7 +19,7 @@ same-length : tie.Need-same-length
 same-length c = search needs
 
 returns : tie.Need-returns
-returns c = λ m. by-rule (inLine-none _ _ _ _ _ _ _ (c .before .before .before .map-block .ensures) (c .before .before .line-of .ensures) _ (omega arith)) (c .refuses .ensures _ _ m)
+returns c = λ m. by-rule (inLine-none _ _ _ _ _ (c .before .before .before .map-block .ensures) (c .before .before .line-of .ensures) _ (omega arith)) (c .refuses .ensures _ _ m)
 
 finish-requires : tie.Need-finish-requires
 finish-requires c κs = search needs
@@ -31,7 +31,7 @@ same-length-3 : tie.Need-same-length-3
 same-length-3 c = search needs
 
 returns-2 : tie.Need-returns-2
-returns-2 c = λ m. by-rule (inLine-finish _ _ _ _ _ _ _ (c .before .before .before .before .before .before .before .before .before .map-block .ensures) (c .before .before .before .before .before .before .before .before .line-of .ensures) (c .before .before .before .before .before .before .before .before .before .before .before .before .before .args .set) (omega arith)) (c .before .before .before .before .finish .ensures m)
+returns-2 c = λ m. by-rule (inLine-finish _ _ _ _ _ (c .before .before .before .before .before .before .before .before .before .map-block .ensures) (c .before .before .before .before .before .before .before .before .line-of .ensures) (c .before .before .before .before .before .before .before .before .before .before .before .before .before .args .set) (omega arith)) (c .before .before .before .before .finish .ensures m)
 
 pub finishes-spec : {M : Type 1} → statement M
 finishes-spec = tie.close (tie.spec map-block-requires line-of-requires refuses-requires same-length returns finish-requires same-length-2 same-length-3 returns-2)

@@ -20,7 +20,7 @@ same-length : tie.Need-same-length
 same-length c = search needs
 
 returns : tie.Need-returns
-returns c = by-rule (turn-broken _ _ _ _ _ _ (sym (c .before .before .fit .ensures _ _) ∙ not-true _ (c .before .if1 .taken))) (c .refuses .ensures _ _ _)
+returns c = by-rule (turn-broken _ _ _ _ (sym (c .before .before .fit .ensures _ _) ∙ not-true _ (c .before .if1 .taken))) (c .refuses .ensures _ _ _)
 
 lengths-right-requires : tie.Need-lengths-right-requires
 lengths-right-requires c κs = search needs
@@ -38,14 +38,14 @@ same-length-4 : tie.Need-same-length-4
 same-length-4 c = search needs
 
 returns-2 : tie.Need-returns-2
-returns-2 c = by-rule (turn-lengths _ _ _ _ _ _ (sym (c .before .before .before .before .before .before .fit .ensures _ _) ∙ not-false _ (c .before .before .before .before .before .if1 .left)) (sym (c .before .before .lengths-right .ensures) ∙ not-true _ (c .before .if2 .taken))) (c .refuses2 .ensures _ _ _)
+returns-2 c = by-rule (turn-lengths _ _ _ _ (sym (c .before .before .before .before .before .before .fit .ensures _ _) ∙ not-false _ (c .before .before .before .before .before .if1 .left)) (sym (c .before .before .lengths-right .ensures) ∙ not-true _ (c .before .if2 .taken))) (c .refuses2 .ensures _ _ _)
 
 by-phase-requires : tie.Need-by-phase-requires
 by-phase-requires c κs =
     let a = c .before .before .before .before .before .before .before .before .before .before .before .before .before .args in
     let r = rows (a .lines .now) (a .bytes .now) (a .memory .now) in
-    let f : fit (a .n) (a .l) (a .x) (a .t) r ≡ true = sym (c .before .before .before .before .before .before .before .before .fit .ensures _ _) ∙ not-false _ (c .before .before .before .before .before .before .before .if1 .left) in
-    (fit-n _ _ _ _ r f, fit-x _ _ _ _ r f, fit-l _ _ _ _ r f, lengths-l (a .n) _ _ (a .memory .now) (sym (c .before .before .before .before .lengths-right .ensures) ∙ not-false _ (c .before .before .before .if2 .left)))
+    let f : fit (a .shape) (a .x) (a .t) r ≡ true = sym (c .before .before .before .before .before .before .before .before .fit .ensures _ _) ∙ not-false _ (c .before .before .before .before .before .before .before .if1 .left) in
+    (fit-n _ _ _ r f, fit-x _ _ _ r f, fit-l _ _ _ r f, lengths-l (a .shape) _ (a .memory .now) (sym (c .before .before .before .before .lengths-right .ensures) ∙ not-false _ (c .before .before .before .if2 .left)))
 
 same-length-5 : tie.Need-same-length-5
 same-length-5 c = search needs
@@ -57,7 +57,7 @@ same-length-7 : tie.Need-same-length-7
 same-length-7 c = search needs
 
 returns-3 : tie.Need-returns-3
-returns-3 c = by-rule (turn-steps _ _ _ _ _ _ (sym (c .before .before .before .before .before .before .before .before .before .before .before .before .before .before .before .fit .ensures _ _) ∙ not-false _ (c .before .before .before .before .before .before .before .before .before .before .before .before .before .before .if1 .left)) (sym (c .before .before .before .before .before .before .before .before .before .before .before .lengths-right .ensures) ∙ not-false _ (c .before .before .before .before .before .before .before .before .before .before .if2 .left))) (c .before .before .before .before .before .before .by-phase .ensures)
+returns-3 c = by-rule (turn-steps _ _ _ _ (sym (c .before .before .before .before .before .before .before .before .before .before .before .before .before .before .before .fit .ensures _ _) ∙ not-false _ (c .before .before .before .before .before .before .before .before .before .before .before .before .before .before .if1 .left)) (sym (c .before .before .before .before .before .before .before .before .before .before .before .lengths-right .ensures) ∙ not-false _ (c .before .before .before .before .before .before .before .before .before .before .if2 .left))) (c .before .before .before .before .before .before .by-phase .ensures)
 
 pub turn-spec : {M : Type 1} → statement M
 turn-spec = tie.close (tie.spec fit-requires refuses-requires same-length returns lengths-right-requires refuses-requires-2 same-length-2 same-length-3 same-length-4 returns-2 by-phase-requires same-length-5 same-length-6 same-length-7 returns-3)

@@ -60,7 +60,7 @@ groups-requires-2 c κs = search needs
 
 cast-earlier : tie.Need-cast-earlier Inv-loop μ-loop
 cast-earlier c = let a = c .before .before .before .before .before .before .before .before .before .before .args in let l = c .before .before .before .before .before .before .before .before .loop in
-    omega (arith, groups-≤ (c .before .before .before .before .next-marked .result + 1) (a .n) (omega (arith, k-few (a .n) (a .memory .now) (l .g) (a .b) (c .before .before .before .before .before .before .leaf-of .result) (c .before .before .before .before .before .leaf-of2 .result) (omega arith) (omega arith) (c .before .before .before .before .before .before .leaf-of .ensures) (c .before .before .before .before .before .leaf-of2 .ensures) (c .before .before .before .before .next-marked .result) (c .before .before .before .before .next-marked .ensures) (c .before .before .before .if1 .left))), groups-most (a .n) (omega arith))
+    omega (arith, groups-≤ (c .before .before .before .before .next-marked .result + 1) (a .n) (omega (arith, k-few (a .n) (a .memory .now) (l .g) (a .b) (c .before .before .before .before .before .before .leaf-of .result) (c .before .before .before .before .before .leaf-of2 .result) (omega arith) (omega arith) (c .before .before .before .before .before .before .leaf-of .ensures) (c .before .before .before .before .before .leaf-of2 .ensures) (c .before .before .before .before .next-marked .result) (c .before .before .before .before .next-marked .ensures) (c .before .before .before .if1 .left))), groups-most (a .n) 262144 (omega arith))
 
 earlier-requires : tie.Need-earlier-requires Inv-loop μ-loop
 earlier-requires c κs = search needs

@@ -13,7 +13,7 @@ shared-slice-read-w : tie.Need-shared-slice-read-w
 shared-slice-read-w c = search needs
 
 returns : tie.Need-returns
-returns c = sym (line-free (c .before .before .before .args .n) (c .before .before .before .args .t) (c .before .before .before .args .l) (c .before .before .before .args .lines .now) (c .before .before .before .args .trackers) (c .before .before .before .args .i) (omega arith))
+returns c = sym (line-free (c .before .before .before .args .shape) (c .before .before .before .args .lines .now) (c .before .before .before .args .trackers) (c .before .before .before .args .i) (omega arith))
 
 block-of-requires : tie.Need-block-of-requires
 block-of-requires c κs = search needs
@@ -25,7 +25,7 @@ cast-if2 : tie.Need-cast-if2
 cast-if2 c = search needs
 
 returns-2 : tie.Need-returns-2
-returns-2 c = sym (line-none (c .before .before .before .before .before .before .args .n) (c .before .before .before .before .before .before .args .t) (c .before .before .before .before .before .before .args .l) (c .before .before .before .before .before .before .args .lines .now) (c .before .before .before .before .before .before .args .trackers) (c .before .before .before .before .before .before .args .i) (omega arith) (omega arith))
+returns-2 c = sym (line-none (c .before .before .before .before .before .before .args .shape) (c .before .before .before .before .before .before .args .lines .now) (c .before .before .before .before .before .before .args .trackers) (c .before .before .before .before .before .before .args .i) (omega arith) (omega arith))
 
 line-of-requires : tie.Need-line-of-requires
 line-of-requires c κs = search needs
@@ -37,7 +37,7 @@ both-requires : tie.Need-both-requires
 both-requires c κs = search needs
 
 returns-3 : tie.Need-returns-3
-returns-3 c = rw (c .both .ensures, c .before .holder-whole .ensures, c .before .before .line-of .ensures, c .before .before .before .before .before .block-of .ensures) (sym (line-used (c .before .before .before .before .before .before .before .before .before .args .n) (c .before .before .before .before .before .before .before .before .before .args .t) (c .before .before .before .before .before .before .before .before .before .args .l) (c .before .before .before .before .before .before .before .before .before .args .lines .now) (c .before .before .before .before .before .before .before .before .before .args .trackers) (c .before .before .before .before .before .before .before .before .before .args .i) (omega arith) (omega arith)))
+returns-3 c = rw (c .both .ensures, c .before .holder-whole .ensures, c .before .before .line-of .ensures, c .before .before .before .before .before .block-of .ensures) (sym (line-used (c .before .before .before .before .before .before .before .before .before .args .shape) (c .before .before .before .before .before .before .before .before .before .args .lines .now) (c .before .before .before .before .before .before .before .before .before .args .trackers) (c .before .before .before .before .before .before .before .before .before .args .i) (omega arith) (omega arith)))
 
 pub line-whole-spec : {M : Type 1} → statement M
 line-whole-spec =

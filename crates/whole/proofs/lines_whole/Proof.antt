@@ -11,10 +11,10 @@ use Rattle.whole.proofs.lines_whole.Statement.{statement}
 use Rattle.whole.proofs.lines_whole.Tie as tie
 
 abbrev Inv-loop : tie.InvT-loop
-Inv-loop n t l lines trackers i₀ i = (i ≤ l) × (all (lineWhole (stateOf n t l 0 lines trackers)) i ≡ true)
+Inv-loop shape lines trackers l i₀ i = (i ≤ shape .l) × (all (lineWhole (stateOf shape lines trackers)) i ≡ true)
 
 abbrev μ-loop : tie.MeasureT-loop
-μ-loop n t l lines trackers i₀ i = l - i
+μ-loop shape lines trackers l i₀ i = shape .l - i
 
 loop-holds : tie.Need-loop-holds Inv-loop μ-loop
 loop-holds c = (omega arith, all-zero _)
@@ -32,10 +32,10 @@ loop-again : tie.Need-loop-again Inv-loop μ-loop
 loop-again c = (omega arith, all-more _ (c .before .before .before .loop .i) (c .before .before .before .loop .inv .1) (sym (c .before .line-whole .ensures) ∙ c .if1 .taken))
 
 returns : tie.Need-returns Inv-loop μ-loop
-returns c = sym (all-fails _ (c .before .before .before .before .before .args .l) (c .before .before .before .loop .i) (omega arith) (sym (c .before .line-whole .ensures) ∙ c .if1 .left))
+returns c = sym (all-fails _ (c .before .before .before .before .before .args .shape .l) (c .before .before .before .loop .i) (omega arith) (sym (c .before .line-whole .ensures) ∙ c .if1 .left))
 
 returns-2 : tie.Need-returns-2 Inv-loop μ-loop
-returns-2 c = let e : c .before .loop .i ≡ c .before .before .before .args .l = omega arith in sym (rw e at (c .before .loop .inv .1))
+returns-2 c = let e : c .before .loop .i ≡ c .before .before .before .args .shape .l = omega arith in sym (rw e at (c .before .loop .inv .1))
 
 pub lines-whole-spec : {M : Type 1} → statement M
 lines-whole-spec =

@@ -17,7 +17,7 @@ is-idle-requires c κs = search needs
 
 returns : tie.Need-returns
 returns c = let a = c .before .before .before .before .args in
-    sym (tracker-idle (a .n) (a .l) (a .lines .now) (a .t4) (a .x) (sym (c .before .is-idle .ensures) ∙ c .if1 .taken))
+    sym (tracker-idle (a .shape) (a .lines .now) (a .t3) (a .x) (sym (c .before .is-idle .ensures) ∙ c .if1 .taken))
 
 groups-requires : tie.Need-groups-requires
 groups-requires c κs = search needs
@@ -27,7 +27,7 @@ cast-if2 c = search needs
 
 returns-2 : tie.Need-returns-2
 returns-2 c = let a = c .before .before .before .before .before .before .before .args in
-    sym (tracker-far (a .n) (a .l) (a .lines .now) (a .t4) (a .x) (sym (c .before .before .before .before .is-idle .ensures) ∙ c .before .before .before .if1 .left) (omega arith))
+    sym (tracker-far (a .shape) (a .lines .now) (a .t3) (a .x) (sym (c .before .before .before .before .is-idle .ensures) ∙ c .before .before .before .if1 .left) (omega arith))
 
 holds-at-requires : tie.Need-holds-at-requires
 holds-at-requires c κs = search needs
@@ -46,11 +46,11 @@ phase-whole-requires-2 c κs = search needs
 
 returns-3 : tie.Need-returns-3
 returns-3 c = let a = c .before .before .before .before .before .before .before .before .before .before .before .before .args in
-    rw (c .both .ensures, c .before .held-by-it .ensures, c .before .before .phase-whole .ensures) (sym (tracker-holds (a .n) (a .l) (a .lines .now) (a .t4) (a .x) (sym (c .before .before .before .before .before .before .before .before .before .is-idle .ensures) ∙ c .before .before .before .before .before .before .before .before .if1 .left) (omega arith) (sym (c .before .before .before .before .holds-at .ensures) ∙ c .before .before .before .if3 .taken)))
+    rw (c .both .ensures, c .before .held-by-it .ensures, c .before .before .phase-whole .ensures) (sym (tracker-holds (a .shape) (a .lines .now) (a .t3) (a .x) (sym (c .before .before .before .before .before .before .before .before .before .is-idle .ensures) ∙ c .before .before .before .before .before .before .before .before .if1 .left) (omega arith) (sym (c .before .before .before .before .holds-at .ensures) ∙ c .before .before .before .if3 .taken)))
 
 returns-4 : tie.Need-returns-4
 returns-4 c = let a = c .before .before .before .before .before .before .before .before .before .before .args in
-    rw (c .phase-whole2 .ensures) (sym (tracker-loose (a .n) (a .l) (a .lines .now) (a .t4) (a .x) (sym (c .before .before .before .before .before .before .before .is-idle .ensures) ∙ c .before .before .before .before .before .before .if1 .left) (omega arith) (sym (c .before .before .holds-at .ensures) ∙ c .before .if3 .left)))
+    rw (c .phase-whole2 .ensures) (sym (tracker-loose (a .shape) (a .lines .now) (a .t3) (a .x) (sym (c .before .before .before .before .before .before .before .is-idle .ensures) ∙ c .before .before .before .before .before .before .if1 .left) (omega arith) (sym (c .before .before .holds-at .ensures) ∙ c .before .if3 .left)))
 
 pub tracker-whole-spec : {M : Type 1} → statement M
 tracker-whole-spec =

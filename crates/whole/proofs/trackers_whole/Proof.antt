@@ -11,10 +11,13 @@ use Rattle.whole.proofs.trackers_whole.Statement.{statement}
 use Rattle.whole.proofs.trackers_whole.Tie as tie
 
 abbrev Inv-loop : tie.InvT-loop
-Inv-loop n t l lines trackers end x₀ x = (x ≤ t) × (all (trackerWhole (stateOf n 0 l 0 lines trackers)) x ≡ true)
+Inv-loop shape lines trackers end x₀ x = (x ≤ shape .t) × (all (trackerWhole (stateOf shape lines trackers)) x ≡ true)
 
 abbrev μ-loop : tie.MeasureT-loop
-μ-loop n t l lines trackers end x₀ x = end - x
+μ-loop shape lines trackers end x₀ x = end - x
+
+cast-end : tie.Need-cast-end Inv-loop μ-loop
+cast-end c = omega arith
 
 loop-holds : tie.Need-loop-holds Inv-loop μ-loop
 loop-holds c = (omega arith, all-zero _)
@@ -32,10 +35,10 @@ loop-again : tie.Need-loop-again Inv-loop μ-loop
 loop-again c = (omega arith, all-more _ (c .before .before .before .loop .x) (c .before .before .before .loop .inv .1) (sym (c .before .tracker-whole .ensures) ∙ c .if1 .taken))
 
 returns : tie.Need-returns Inv-loop μ-loop
-returns c = sym (all-fails _ (c .before .before .before .before .before .args .t) (c .before .before .before .loop .x) (omega arith) (sym (c .before .tracker-whole .ensures) ∙ c .if1 .left))
+returns c = sym (all-fails _ (c .before .before .before .before .before .before .args .shape .t) (c .before .before .before .loop .x) (omega arith) (sym (c .before .tracker-whole .ensures) ∙ c .if1 .left))
 
 returns-2 : tie.Need-returns-2 Inv-loop μ-loop
-returns-2 c = let e : c .before .loop .x ≡ c .before .before .before .args .t = omega arith in sym (rw e at (c .before .loop .inv .1))
+returns-2 c = let e : c .before .loop .x ≡ c .before .before .before .before .args .shape .t = omega arith in sym (rw e at (c .before .loop .inv .1))
 
 pub trackers-whole-spec : {M : Type 1} → statement M
 trackers-whole-spec =
@@ -43,6 +46,7 @@ trackers-whole-spec =
     (tie.spec
     Inv-loop
     μ-loop
+    cast-end
     loop-holds
     tracker-whole-requires
     add-x

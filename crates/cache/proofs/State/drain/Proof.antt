@@ -30,7 +30,7 @@ same-length-2 : tie.Need-same-length-2
 same-length-2 c = search needs
 
 returns-2 : tie.Need-returns-2
-returns-2 c = let a = c .before .before .before .before .before .before .before .before .before .before .args in
+returns-2 c = let a = c .before .before .before .before .before .before .before .before .before .before .before .args in
     let e : length (a .t1 .lines) ≡ 64 = search needs in
     ap (λ (y : Rows). accepted (withLines (seen (a .t1)) (y .lines)) (a .bytes .now) (y .memory)) (c .before .before .drain-row .ensures ∙ drain-rows (seen (a .t1)) (a .bytes .now) (a .memory .now) (omega arith) e)
     ∙ sym (drain-accepted (seen (a .t1)) (a .bytes .now) (a .memory .now) (omega arith))

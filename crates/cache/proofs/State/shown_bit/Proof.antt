@@ -35,13 +35,13 @@ bit-at-requires : tie.Need-bit-at-requires
 bit-at-requires c κs = search needs
 
 returns : tie.Need-returns
-returns c = rw (c .bit-at .ensures, c .before .map-bit-of .ensures, c .before .before .map-byte-of .ensures) (sym (bit-lined (seen (c .before .before .before .before .before .before .before .before .before .before .before .args .t1)) (c .before .before .before .before .before .before .before .before .before .before .before .args .bytes .now) (c .before .before .before .before .before .before .before .before .before .before .before .args .memory .now) (c .before .before .before .before .before .before .before .before .before .before .before .args .k) (c .before .before .before .before .line-of .result) (c .before .before .before .before .line-of .ensures ∙ rw (c .before .before .before .before .before .map-number .ensures) refl) (omega arith)))
+returns c = rw (c .bit-at .ensures, c .before .map-bit-of .ensures, c .before .before .map-byte-of .ensures) (sym (bit-lined (seen (c .before .before .before .before .before .before .before .before .before .before .before .before .args .t1)) (c .before .before .before .before .before .before .before .before .before .before .before .before .args .bytes .now) (c .before .before .before .before .before .before .before .before .before .before .before .before .args .memory .now) (c .before .before .before .before .before .before .before .before .before .before .before .before .args .k) (c .before .before .before .before .line-of .result) (c .before .before .before .before .line-of .ensures ∙ rw (c .before .before .before .before .before .map-number .ensures) refl) (omega arith)))
 
 leaf-bit-requires : tie.Need-leaf-bit-requires
 leaf-bit-requires c κs = search needs
 
 returns-2 : tie.Need-returns-2
-returns-2 c = rw (c .leaf-bit .ensures) (sym (bit-memory (seen (c .before .before .before .before .before .before .before .before .before .args .t1)) (c .before .before .before .before .before .before .before .before .before .args .bytes .now) (c .before .before .before .before .before .before .before .before .before .args .memory .now) (c .before .before .before .before .before .before .before .before .before .args .k) (c .before .before .line-of .result) (c .before .before .line-of .ensures ∙ rw (c .before .before .before .map-number .ensures) refl) (omega arith)))
+returns-2 c = rw (c .leaf-bit .ensures) (sym (bit-memory (seen (c .before .before .before .before .before .before .before .before .before .before .args .t1)) (c .before .before .before .before .before .before .before .before .before .before .args .bytes .now) (c .before .before .before .before .before .before .before .before .before .before .args .memory .now) (c .before .before .before .before .before .before .before .before .before .before .args .k) (c .before .before .line-of .result) (c .before .before .line-of .ensures ∙ rw (c .before .before .before .map-number .ensures) refl) (omega arith)))
 
 pub shown-bit-spec : {M : Type 1} → statement M
 shown-bit-spec =

@@ -32,16 +32,16 @@ element-copy-out-tracker : tie.Need-element-copy-out-tracker
 element-copy-out-tracker c = let a = c .before .before .before .before .before .before .args in omega (arith, step-in (seen (a .t1)) (a .bytes .now) (a .memory .now) (a .x) (omega arith))
 
 cast-turn-row : tie.Need-cast-turn-row
-cast-turn-row c = let a = c .before .before .before .before .before .before .before .args in omega (arith, step-in (seen (a .t1)) (a .bytes .now) (a .memory .now) (a .x) (omega arith))
+cast-turn-row c = let a = c .before .before .before .before .before .before .before .before .args in omega (arith, step-in (seen (a .t1)) (a .bytes .now) (a .memory .now) (a .x) (omega arith))
 
 turn-row-requires : tie.Need-turn-row-requires
 turn-row-requires c κs = search needs
 
 mul-left : tie.Need-mul-left
-mul-left c = let a = c .before .before .before .before .before .before .before .before .before .before .before .before .before .before .before .before .args in omega (arith, step-in (seen (a .t1)) (a .bytes .now) (a .memory .now) (a .x) (omega arith))
+mul-left c = let a = c .before .before .before .before .before .before .before .before .before .before .before .before .before .before .before .before .before .before .args in omega (arith, step-in (seen (a .t1)) (a .bytes .now) (a .memory .now) (a .x) (omega arith))
 
 element-set-from-left : tie.Need-element-set-from-left
-element-set-from-left c = let a = c .before .before .before .before .before .before .before .before .before .before .before .before .before .before .before .before .args in omega (arith, step-in (seen (a .t1)) (a .bytes .now) (a .memory .now) (a .x) (omega arith))
+element-set-from-left c = let a = c .before .before .before .before .before .before .before .before .before .before .before .before .before .before .before .before .before .before .args in omega (arith, step-in (seen (a .t1)) (a .bytes .now) (a .memory .now) (a .x) (omega arith))
 
 same-length-3 : tie.Need-same-length-3
 same-length-3 c = search needs
@@ -50,8 +50,8 @@ same-length-4 : tie.Need-same-length-4
 same-length-4 c = search needs
 
 returns-2 : tie.Need-returns-2
-returns-2 c = let a = c .before .before .before .before .before .before .before .before .before .before .before .before .before .before .before .before .args in
-    ap (λ (y : Turned). stepped (seen (a .t1)) (a .x) y) (c .before .before .before .before .before .turn-row .ensures) ∙ sym (step-accepted (seen (a .t1)) (a .bytes .now) (a .memory .now) (a .x) (omega arith))
+returns-2 c = let a = c .before .before .before .before .before .before .before .before .before .before .before .before .before .before .before .before .before .before .args in
+    ap (λ (y : Turned). stepped (seen (a .t1)) (a .x) y) (c .before .before .before .before .before .before .turn-row .ensures) ∙ sym (step-accepted (seen (a .t1)) (a .bytes .now) (a .memory .now) (a .x) (omega arith))
 
 pub step-spec : {M : Type 1} → statement M
 step-spec =

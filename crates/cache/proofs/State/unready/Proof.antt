@@ -1,9 +1,9 @@
 -- `unready` meets its contract, way by way.
 use borrow.Author.Needs.{needs}
-use mathlib.Core.Path.{sym, _∙_}
-use native.Mathlib.Omega.{arith}
+use mathlib.Core.Path.{sym, ap, _∙_}
 use borrow.Author.Tests.{not-true, not-false}
-use Rattle.rules.proofs.Whole.{n-most}
+use Rattle.geometry.specs.declared.Shape.{Shape}
+use Rattle.rules.specs.State.{lengthsRight}
 use Rattle.cache.proofs.Refusals.{unready-1, unready-2, unready-0}
 use Rattle.cache.proofs.State.unready.Statement.{statement}
 use Rattle.cache.proofs.State.unready.Tie as tie
@@ -12,27 +12,19 @@ limits-requires : tie.Need-limits-requires
 limits-requires c κs = search needs
 
 returns : tie.Need-returns
-returns c = sym (unready-1 (c .before .before .before .before .args .n) (c .before .before .before .before .args .t) (c .before .before .before .before .args .l) (c .before .before .before .before .args .bytes .now) (c .before .before .before .before .args .memory .now) (sym (c .before .limits .ensures) ∙ not-true _ (c .if1 .taken)))
+returns c = let a = c .before .before .before .before .args in sym (unready-1 (a .n) (a .t) (a .l) (a .bytes .now) (a .memory .now) (sym (c .before .limits .ensures) ∙ not-true _ (c .if1 .taken)))
 
-cast-lengths-right : tie.Need-cast-lengths-right
-cast-lengths-right c = omega (arith, n-most (c .before .before .before .before .args .n) (c .before .before .before .before .args .t) (c .before .before .before .before .args .l) (sym (c .before .limits .ensures) ∙ not-false _ (c .if1 .left)))
+shaped-requires : tie.Need-shaped-requires
+shaped-requires c κs = sym (c .before .limits .ensures) ∙ not-false _ (c .if1 .left)
 
 lengths-right-requires : tie.Need-lengths-right-requires
 lengths-right-requires c κs = search needs
 
 returns-2 : tie.Need-returns-2
-returns-2 c = sym (unready-2 (c .before .before .before .before .before .before .args .n) (c .before .before .before .before .before .before .args .t) (c .before .before .before .before .before .before .args .l) (c .before .before .before .before .before .before .args .bytes .now) (c .before .before .before .before .before .before .args .memory .now) (sym (c .before .before .before .limits .ensures) ∙ not-false _ (c .before .before .if1 .left)) (sym (c .before .lengths-right .ensures) ∙ not-true _ (c .if2 .taken)))
+returns-2 c = let a = c .before .before .before .before .before .before .before .args in sym (unready-2 (a .n) (a .t) (a .l) (a .bytes .now) (a .memory .now) (sym (c .before .before .before .before .limits .ensures) ∙ not-false _ (c .before .before .before .if1 .left)) (ap (λ (z : Shape). lengthsRight z (a .bytes .now) (a .memory .now)) (sym (c .before .before .shaped .ensures)) ∙ sym (c .before .lengths-right .ensures) ∙ not-true _ (c .if2 .taken)))
 
 returns-3 : tie.Need-returns-3
-returns-3 c = sym (unready-0 (c .before .before .before .before .before .before .args .n) (c .before .before .before .before .before .before .args .t) (c .before .before .before .before .before .before .args .l) (c .before .before .before .before .before .before .args .bytes .now) (c .before .before .before .before .before .before .args .memory .now) (sym (c .before .before .before .limits .ensures) ∙ not-false _ (c .before .before .if1 .left)) (sym (c .before .lengths-right .ensures) ∙ not-false _ (c .if2 .left)))
+returns-3 c = let a = c .before .before .before .before .before .before .before .args in sym (unready-0 (a .n) (a .t) (a .l) (a .bytes .now) (a .memory .now) (sym (c .before .before .before .before .limits .ensures) ∙ not-false _ (c .before .before .before .if1 .left)) (ap (λ (z : Shape). lengthsRight z (a .bytes .now) (a .memory .now)) (sym (c .before .before .shaped .ensures)) ∙ sym (c .before .lengths-right .ensures) ∙ not-false _ (c .if2 .left)))
 
 pub unready-spec : {M : Type 1} → statement M
-unready-spec =
-    tie.close
-    (tie.spec
-    limits-requires
-    returns
-    cast-lengths-right
-    lengths-right-requires
-    returns-2
-    returns-3)
+unready-spec = tie.close (tie.spec limits-requires returns shaped-requires lengths-right-requires returns-2 returns-3)
