@@ -18,7 +18,7 @@ use Rattle.geometry.specs.TagMemory.{values, mostTrackers, mostLines}
 use Rattle.tracker.specs.declared.Tracker.{Tracker}
 use Rattle.tracker.specs.Tracker.{idle, mostTurns}
 use Rattle.rules.specs.State.{State, trackerAt}
-use Rattle.coding.specs.Words.{trackerPlace, stateWords, phaseNumber, shapeCoded, trackerCoded, trackersCoded, coded, trackerIn, trackersTo, decoded, codesTracker, codesShape, codesLine, codes}
+use Rattle.coding.specs.Words.{trackerPlace, stateWords, phaseNumber, shapeCoded, trackerCoded, trackersCoded, coded, trackerIn, trackersTo, shapeIn, decoded, codesTracker, codesShape, codesLine, codes}
 use Rattle.coding.specs.Fields.{TrackerFits, Fits}
 use Rattle.coding.proofs.Stores.{part-4, part-6}
 use Rattle.coding.proofs.Trackers.{phaseNumber-phaseOf, phaseNumber-below, one-eqb, one-below, trackersTo-coded, trackers-append, trackers-one, trackers-split, length-before}
@@ -26,15 +26,15 @@ use Rattle.coding.proofs.Turns.{narrow, coding, length-trackersTo, leng
 
 -- the words before the trackers
 front : State → List ℕ
-front s = shapeCoded s ++ s .lines
+front s = shapeCoded (s .shape) ++ s .lines
 
 coded-front : (s : State) → coded s ≡ front s ++ trackersCoded (s .trackers)
 unfolding coded front
-coded-front s = sym (append-assoc (shapeCoded s) (s .lines) (trackersCoded (s .trackers)))
+coded-front s = sym (append-assoc (shapeCoded (s .shape)) (s .lines) (trackersCoded (s .trackers)))
 
 shape-back : (s : State)
-    → _≡_ {A = State} (record { n = getD (coded s) 0 0; t = getD (coded s) 1 0; l = getD (coded s) 2 0; hand = getD (coded s) 3 0; lines = s .lines; trackers = s .trackers }) s
-unfolding coded
+    → _≡_ {A = State} (record { shape = shapeIn (coded s); lines = s .lines; trackers = s .trackers }) s
+unfolding coded shapeIn
 shape-back s = refl
 
 -- what a state's coding codes is the state
@@ -45,7 +45,7 @@ module _ (s : State) (lined : length (s .lines) ≡ mostLines) (tracked : length
 
   lines-back : part (coded s) 4 64 ≡ s .lines
   unfolding coded
-  lines-back = piece (coded s) (shapeCoded s) (s .lines) (trackersCoded (s .trackers)) 4 64 refl refl lined
+  lines-back = piece (coded s) (shapeCoded (s .shape)) (s .lines) (trackersCoded (s .trackers)) 4 64 refl refl lined
 
   trackers-back : trackersTo (coded s) 8 ≡ s .trackers
   trackers-back =
@@ -87,7 +87,7 @@ trackers-part w (suc x) h q =
 
 -- words that code a state are the coding of what they code
 pub coded-decoded : (w : List ℕ) → codes w ≡ true → coded (decoded w) ≡ w
-unfolding coded decoded
+unfolding coded decoded shapeIn
 coded-decoded w h =
     let c = coding w h in
     let e = c .size in
@@ -116,7 +116,7 @@ module _ (s : State) (f : Fits s) where
   unfolding coded
   line-codes i h =
       lt-ltb (getD (coded s) (4 + i) 0) values
-      (rw (getD-append-add (shapeCoded s) (s .lines ++ trackersCoded (s .trackers)) i 0, List·getD-append (s .lines) (trackersCoded (s .trackers)) 0 i (omega (arith, f .lined))) (f .lines i h))
+      (rw (getD-append-add (shapeCoded (s .shape)) (s .lines ++ trackersCoded (s .trackers)) i 0, List·getD-append (s .lines) (trackersCoded (s .trackers)) 0 i (omega (arith, f .lined))) (f .lines i h))
 
   trackers-code : (x : ℕ) → x < 8 → codesTracker (coded s) (trackerPlace x) ≡ true
   trackers-code x h =
@@ -127,7 +127,7 @@ module _ (s : State) (f : Fits s) where
 
   shape-codes : codesShape (coded s) ≡ true
   unfolding coded
-  shape-codes = both-true _ _ (lt-ltb (s .n) values (f .n)) (lt-ltb (s .t) values (f .t))
+  shape-codes = both-true _ _ (lt-ltb (s .shape .n) values (f .n)) (lt-ltb (s .shape .t) values (f .t))
 
   pub codes-coded : codes (coded s) ≡ true
   unfolding codes
@@ -157,7 +157,7 @@ trackersTo-at w (suc x) y h =
     ⊎-elim (λ l. trackersTo-front w x y l ∙ trackersTo-at w x y l) (λ g. let e : y ≡ x = omega arith in rw e (trackersTo-last w x)) (lt-or-ge y x)
 
 pub decoded-fits : (w : List ℕ) → codes w ≡ true → Fits (decoded w)
-unfolding decoded
+unfolding decoded shapeIn
 decoded-fits w h =
     let c = coding w h in
     let e = c .size in

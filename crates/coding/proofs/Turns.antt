@@ -159,12 +159,12 @@ module _ (s : State) (lined : length (s .lines) ≡ 64) (tracked : length (s .tr
   unfolding coded
   length-coded = omega (arith, length-append (s .lines) (trackersCoded (s .trackers)), length-trackers (s .trackers))
 
-  pub encoded : (w : List ℕ) → length w ≡ stateWords → splice (splice (splice w 0 (shapeCoded s)) 4 (s .lines)) 68 (trackersCoded (s .trackers)) ≡ coded s
+  pub encoded : (w : List ℕ) → length w ≡ stateWords → splice (splice (splice w 0 (shapeCoded (s .shape))) 4 (s .lines)) 68 (trackersCoded (s .trackers)) ≡ coded s
   unfolding coded
   encoded w e =
       let q : 68 ≡ 4 + length (s .lines) = omega arith in
-      let k : length (shapeCoded s ++ (s .lines)) ≡ 68 = omega arith in
-      ap (λ (l : List ℕ). splice l 68 (trackersCoded (s .trackers))) (splice-then w 0 (shapeCoded s) (s .lines) 4 refl (omega arith))
-      ∙ splice-then w 0 (shapeCoded s ++ s .lines) (trackersCoded (s .trackers)) 68 (omega arith) (omega arith)
-      ∙ ap (splice w 0) (append-assoc (shapeCoded s) (s .lines) (trackersCoded (s .trackers)))
+      let k : length (shapeCoded (s .shape) ++ (s .lines)) ≡ 68 = omega arith in
+      ap (λ (l : List ℕ). splice l 68 (trackersCoded (s .trackers))) (splice-then w 0 (shapeCoded (s .shape)) (s .lines) 4 refl (omega arith))
+      ∙ splice-then w 0 (shapeCoded (s .shape) ++ s .lines) (trackersCoded (s .trackers)) 68 (omega arith) (omega arith)
+      ∙ ap (splice w 0) (append-assoc (shapeCoded (s .shape)) (s .lines) (trackersCoded (s .trackers)))
       ∙ splice-all w (coded s) (length-coded ∙ sym e)

@@ -13,8 +13,8 @@ pub record TrackerFits (t : Tracker) : Type 0 where
   pub turns : t .turns ≤ mostTurns
 
 pub record Fits (s : State) : Type 0 where
-  pub n : s .n < values
-  pub t : s .t < values
+  pub n : s .shape .n < values
+  pub t : s .shape .t < values
   pub lined : length (s .lines) ≡ mostLines
   pub tracked : length (s .trackers) ≡ mostTrackers
   pub lines : (i : ℕ) → i < mostLines → getD (s .lines) i 0 < values

@@ -8,6 +8,7 @@ use Rattle.laws.specs.Choice.{pick, both, one}
 use Rattle.laws.specs.Scan.{all}
 use Rattle.laws.specs.Bytes.{part}
 use Rattle.geometry.specs.TagMemory.{values, mostTrackers, mostLines}
+use Rattle.geometry.specs.declared.Shape.{Shape}
 use Rattle.tracker.specs.declared.Phase.{Phase}
 use Rattle.tracker.specs.declared.Phase.the-variants.{Idle, Probe, Map, Leaf, Set, Clear}
 use Rattle.tracker.specs.declared.Tracker.{Tracker}
@@ -48,12 +49,12 @@ unfoldable pub trackersCoded : List Tracker → List ℕ
 trackersCoded [] = []
 trackersCoded (t ∷ ts) = trackerCoded t ++ trackersCoded ts
 
-abbrev pub shapeCoded : State → List ℕ
+abbrev pub shapeCoded : Shape → List ℕ
 shapeCoded s = s .n ∷ s .t ∷ s .l ∷ s .hand ∷ []
 
 -- the coding of a state
 unfoldable pub coded : State → List ℕ
-coded s = shapeCoded s ++ (s .lines ++ trackersCoded (s .trackers))
+coded s = shapeCoded (s .shape) ++ (s .lines ++ trackersCoded (s .trackers))
 
 -- the phase that has a number
 unfoldable pub phaseOf : ℕ → Phase
@@ -75,13 +76,14 @@ unfoldable pub trackersTo : List ℕ → ℕ → List Tracker
 trackersTo w zero = []
 trackersTo w (suc x) = trackersTo w x ++ (trackerIn w (trackerPlace x) ∷ [])
 
+-- the shape that words code
+unfoldable pub shapeIn : List ℕ → Shape
+shapeIn w = record { n = getD w 0 0; t = getD w 1 0; l = getD w 2 0; hand = getD w 3 0 }
+
 -- the state that words code
 unfoldable pub decoded : List ℕ → State
 decoded w = record {
-  n = getD w 0 0;
-  t = getD w 1 0;
-  l = getD w 2 0;
-  hand = getD w 3 0;
+  shape = shapeIn w;
   lines = part w linesPlace mostLines;
   trackers = trackersTo w mostTrackers;
 }

@@ -2,6 +2,7 @@
 // No public function has a `requires`: words can be anything, and as many as a caller likes.
 use cache::State;
 use geometry::Geometry;
+use geometry::Shape;
 use tracker::Answer;
 use tracker::Phase;
 use tracker::Tracker;
@@ -18,7 +19,7 @@ ghost use Rattle.geometry.specs.TagMemory.{mostLines, mostTrackers};
 ghost use Rattle.tracker.specs.Answer.{says};
 ghost use Rattle.rules.specs.State.{zeroState};
 ghost use Rattle.cache.specs.Seen.{seen};
-ghost use Rattle.coding.specs.Words.{trackerWords, linesPlace, trackerPlace, stateWords, phaseNumber, trackerCoded, trackersCoded, coded, phaseOf, trackerIn, trackersTo, decoded, codesTracker, codesLine, codes};
+ghost use Rattle.coding.specs.Words.{trackerWords, linesPlace, trackerPlace, stateWords, phaseNumber, trackerCoded, trackersCoded, shapeCoded, coded, phaseOf, trackerIn, trackersTo, shapeIn, decoded, codesTracker, codesLine, codes};
 ghost use Rattle.coding.specs.Answer.{numberOf, answerWords, answerOf, answerCoded};
 
 // The words of a tracker.
@@ -194,18 +195,29 @@ fn trackers_in(words: &[u64]) -> [Tracker; Geometry::MOST_TRACKERS]
     trackers
 }
 
+// The shape that words code.
+fn shape_in(words: &[u64]) -> Shape
+    requires { ⌜ codes (now words) ≡ true ⌝ }
+    ensures { λ r. ⌜ r ≡ shapeIn (now (words .entry)) ⌝ }
+{
+    Shape {
+        n: words[0] as u32,
+        t: words[1] as u32,
+        l: words[2] as usize,
+        hand: words[3] as usize,
+    }
+}
+
 // The state that words code.
 fn state_in(words: &[u64]) -> State
     requires { ⌜ codes (now words) ≡ true ⌝ }
     ensures { λ r. ⌜ seen r ≡ decoded (now (words .entry)) ⌝ }
 {
+    let shape = shape_in(words);
     let lines = lines_in(words);
     let trackers = trackers_in(words);
     State {
-        n: words[0] as u32,
-        t: words[1] as u32,
-        l: words[2] as usize,
-        hand: words[3] as usize,
+        shape,
         lines,
         trackers,
     }
@@ -215,12 +227,10 @@ fn state_in(words: &[u64]) -> State
 fn zero() -> State
     ensures { λ r. ⌜ seen r ≡ zeroState ⌝ }
 {
+    let shape = Shape::start(0, 0, 0);
     let idle = Tracker::rest();
     State {
-        n: 0,
-        t: 0,
-        l: 0,
-        hand: 0,
+        shape,
         lines: [0; Geometry::MOST_LINES],
         trackers: [idle; Geometry::MOST_TRACKERS],
     }
@@ -242,14 +252,14 @@ pub fn decode(words: &[u64]) -> Decoded
 }
 
 // n, T, L and the hand.
-fn put_shape(words: &mut [u64], n: u32, t: u32, l: usize, hand: usize)
+fn put_shape(words: &mut [u64], shape: Shape)
     requires { ⌜ linesPlace ≤ length (now words) ⌝ }
-    ensures { λ _. ⌜ now (words .exit) ≡ splice (now (words .entry)) 0 (n ∷ t ∷ l ∷ hand ∷ []) ⌝ }
+    ensures { λ _. ⌜ now (words .exit) ≡ splice (now (words .entry)) 0 (shapeCoded shape) ⌝ }
 {
-    words[0] = n as u64;
-    words[1] = t as u64;
-    words[2] = l as u64;
-    words[3] = hand as u64;
+    words[0] = shape.n as u64;
+    words[1] = shape.t as u64;
+    words[2] = shape.l as u64;
+    words[3] = shape.hand as u64;
 }
 
 // The lines.
@@ -305,7 +315,8 @@ pub fn encode(state: State, words: &mut [u64])
     if words.len() != STATE_WORDS {
         return;
     }
-    put_shape(words, state.n, state.t, state.l, state.hand);
+    let shape = state.shape;
+    put_shape(words, shape);
     let lines = state.lines;
     put_lines(words, lines);
     let trackers = state.trackers;

@@ -24,8 +24,8 @@ same-length : tie.Need-same-length
 same-length c = search needs
 
 returns-2 : tie.Need-returns-2
-returns-2 c = let a = c .before .before .before .before .before .before .before .before .before .before .before .before .before .before .before .before .args in
-    let e = c .before .before .before .before .before .before .before .before .before .before .before .before .before .before .if1 .left in
+returns-2 c = let a = c .before .before .before .before .before .before .before .before .before .before .before .before .before .before .before .before .before .args in
+    let e = c .before .before .before .before .before .before .before .before .before .before .before .before .before .before .before .if1 .left in
     let p : length (a .state .lines) ≡ 64 = search needs in
     let q = c .before .before .put-trackers .ensures .1 in
     rw (eq-eqb _ _ e) (c .before .before .put-trackers .ensures .0 ∙ rw (c .before .before .before .before .before .before .before .put-lines .ensures, c .before .before .before .before .before .before .before .before .before .before .before .before .put-shape .ensures) (encoded (seen (a .state)) p q (a .words .now) e))
