@@ -1,5 +1,6 @@
 pub mod Parts
 pub mod Reading
 pub mod Truth
+pub mod Words
 pub mod Clearing
 pub mod One
