@@ -254,9 +254,5 @@ pub fn clear(row: &mut [u8], at: usize, count: usize)
     if row.len() - count < at {
         return;
     }
-    let mut i: usize = 0;
-    while i < count {
-        row[at + i] = 0;
-        i += 1;
-    }
+    block::clear(&mut row[at..at + count]);
 }

@@ -12,7 +12,7 @@ ghost use Rattle.memory.specs.True.{mapWord, trueWord, isTrue, clearedMa
 const REFUSED: u64 = 4294967296;
 
 // The bits of a word of the map.
-const WORD_BITS: u32 = 32;
+pub const WORD_BITS: u32 = 32;
 
 // Leaf k's bit in a memory of n leaves.
 pub fn leaf_bit(n: u32, memory: &[u8], k: u32) -> u8

@@ -7,13 +7,14 @@ use native.Mathlib.Omega.{arith}
 use lib.Dec.{eqb}
 use lib.ListN.{length, replicate, length-replicate}
 use borrow.Author.Tests.{eq-eqb, ne-eqb}
-use Rattle.laws.specs.Bytes.{putW}
+use Rattle.laws.specs.Choice.{pick}
+use Rattle.laws.specs.Bytes.{part, fits, putW}
 use Rattle.laws.specs.Refusal.{refusal}
 use Rattle.laws.proofs.Refusal.{refusal-0, refusal-first, unless-0, unless-no}
 use Rattle.laws.proofs.Put.{putW-fits}
 use Rattle.geometry.specs.TagMemory.{memoryLength, blockPlace, mapPlace, mapBitOf}
-use Rattle.block.specs.Block.{blockOr0, putBit}
-use Rattle.block.proofs.Blocks.{blockOr0-fits}
+use Rattle.block.specs.Block.{putBit}
+use Rattle.block.proofs.Blocks.{copy-fits}
 use Rattle.laws.proofs.Writes.{splice-end}
 use Rattle.image.specs.Encode.{Record}
 use Rattle.image.specs.Test.{leavesIn, recordedIn, recordIn, recordAt, imageTest}
@@ -21,10 +22,10 @@ use Rattle.image.specs.Calls.{putRecord, filled, recordsIn, memoryOf, restoring
 use Rattle.image.proofs.Records.{length-recordsTo, recordsTo-at}
 
 pub put-record-law : (n : ℕ) (mem row : List ℕ) (i : ℕ) → length row ≡ 512 → i < 7
-    → putBit (putW 64 mem (blockPlace (recordIn row i .leaf)) (blockOr0 row (12 + 68 * i))) (mapPlace n (recordIn row i .leaf)) (mapBitOf (recordIn row i .leaf)) 1
+    → putBit (pick (fits row (12 + 68 * i) 64) (putW 64 mem (blockPlace (recordIn row i .leaf)) (part row (12 + 68 * i) 64)) mem) (mapPlace n (recordIn row i .leaf)) (mapBitOf (recordIn row i .leaf)) 1
     ≡ putRecord n mem (recordIn row i)
 unfolding putRecord
-put-record-law n mem row i h l = rw (blockOr0-fits row (12 + 68 * i) (omega arith))
+put-record-law n mem row i h l = rw (sym (copy-fits mem (blockPlace (recordIn row i .leaf)) row (12 + 68 * i) (omega arith)))
 
 pub filled-none : (n : ℕ) (mem : List ℕ) (rs : List Record) → length mem ≡ memoryLength n → putW (length mem) mem 0 (replicate (length mem) 0) ≡ filled n rs 0
 unfolding filled

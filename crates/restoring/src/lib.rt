@@ -14,8 +14,12 @@ fn put_record(n: u32, memory: &mut [u8], row: &[u8], i: usize)
     ensures { λ _. ⌜ now (memory .exit) ≡ putRecord n (now (memory .entry)) (recordIn (now (row .entry)) i) ⌝ }
 {
     let leaf = sums::four_at(row, image::RECORDS + image::RECORD * i);
-    let content = block::read_block(row, image::CONTENT + image::RECORD * i);
-    block::write_block(memory, Geometry::block_place(leaf), &content);
+    block::copy_block(
+        memory,
+        Geometry::block_place(leaf),
+        row,
+        image::CONTENT + image::RECORD * i,
+    );
     block::put_bit(
         memory,
         Geometry::map_place(n, leaf),

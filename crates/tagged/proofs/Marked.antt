@@ -9,7 +9,7 @@ use lib.ListN.{length, getD}
 use borrow.Author.Tests.{eq-eqb, ne-eqb, eqb-true, eqb-false}
 use Rattle.laws.specs.Choice.{no}
 use Rattle.laws.specs.Scan.{countFrom}
-use Rattle.laws.proofs.Bits.{isSet, bitOf-0, ones-between}
+use Rattle.laws.proofs.Bits.{isSet, ones-between}
 use Rattle.laws.proofs.Scan.{countFrom-most, countFrom-add, countFrom-same, countFrom-shift}
 use Rattle.geometry.specs.TagMemory.{leafOf, memoryLength, blockPlace, groupPlace, mapPlace}
 use Rattle.geometry.proofs.Places.{mapPlace-byte, mapBitOf-byte, bit-inside, leaf-has-bit}
@@ -72,13 +72,6 @@ module _ (n : ℕ) (m : List ℕ) where
 
     pub more-most : x + y + z ≤ l + 1
     more-most = omega (arith, more-bytes, countFrom-most (isMarked n m) k (l + 1) (omega arith))
-
-  -- a zero byte has no mark
-  pub zero-byte : (j k : ℕ) → byte j ≡ 0 → 8 * j ≤ k → k < 8 * j + 8 → isMarked n m k ≡ false
-  zero-byte j k z h l =
-      let i = k - 8 * j in
-      let e : k ≡ 8 * j + i = omega arith in
-      rw e (marked-bit j i (omega arith) ∙ rw (z, bitOf-0 i))
 
   -- a byte with the bit of a leaf below n lies in memory
   pub byte-inside : (j : ℕ) → 8 * j < n → length m ≡ memoryLength n → blockPlace n + j < length m

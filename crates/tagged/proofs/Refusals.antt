@@ -80,6 +80,9 @@ module _ (n : ℕ) (m : List ℕ) (a b : ℕ) where
       let h : Hold (tests n m a b) = refusal-hold (tests n m a b) refl e in
       (refusal-0 (sized n m) (h .0, (h .1 .0, tt)), refusal-0 (inside n a b) (h .1 .1 .1))
 
+  pub true-if : refusal (tests n m a b) ≡ 0 → isTrue n m ≡ true
+  true-if e = let h : Hold (tests n m a b) = refusal-hold (tests n m a b) refl e in h .1 .1 .0
+
   testsAsTrue-hold : refusal (testsAsTrue n m a b) ≡ 0 → (refusal (sized n m) ≡ 0) × (refusal (inside n a b) ≡ 0)
   testsAsTrue-hold e =
       let h : Hold (testsAsTrue n m a b) = refusal-hold (testsAsTrue n m a b) refl e in
@@ -127,6 +130,10 @@ module _ (n : ℕ) (m : List ℕ) (a b : ℕ) where
   as-true-same h = rw h
 
   -- the numbers for C
+  pub number-no : (c : ℕ) → c ≡ refusal (tests n m a b) → 0 < c → groupNumber (between n m a b) ≡ 4294967296 + c
+  unfolding groupNumber
+  number-no c e h = rw (between-no c e h, ne-eqb c 0 (λ z. absurd (omega arith)))
+
   pub group-no : (c : ℕ) → c ≡ refusal (testsAsTrue n m a b) → 0 < c → groupNumber (betweenAsTrue n m a b) ≡ 4294967296 + c
   unfolding betweenAsTrue groupNumber
   group-no c e h = rw (unless-no {c = refusal (testsAsTrue n m a b)} (said n m a b) refused (omega arith), sym e, ne-eqb c 0 (λ z. omega arith))
@@ -149,18 +156,6 @@ module _ (n : ℕ) (m : List ℕ) (a b : ℕ) where
 
 -- the same numbers of any answer
 module _ (t : Tagged) where
-  pub number-no : (t .refusal ≡ 0 → ⊥) → groupNumber t ≡ 4294967296 + t .refusal
-  unfolding groupNumber
-  number-no h = rw (ne-eqb (t .refusal) 0 h)
-
-  pub number-found : t .refusal ≡ 0 → t .found ≡ true → groupNumber t ≡ t .group
-  unfolding groupNumber
-  number-found h f = rw (eq-eqb (t .refusal) 0 h, f)
-
-  pub number-none : t .refusal ≡ 0 → t .found ≡ false → groupNumber t ≡ 8589934592
-  unfolding groupNumber
-  number-none h f = rw (eq-eqb (t .refusal) 0 h, f)
-
   pub count-no : (t .refusal ≡ 0 → ⊥) → leavesNumber t ≡ 4294967296 + t .refusal
   unfolding leavesNumber
   count-no h = rw (ne-eqb (t .refusal) 0 h)

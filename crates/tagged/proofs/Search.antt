@@ -3,18 +3,17 @@ use mathlib.Core.Path.{_≡_, ap, sym, _∙_}
 use mathlib.Core.Bool.{true}
 use mathlib.Core.List.{List}
 use mathlib.Core.Logic.{⊎-elim}
-use Prim.Native.Nat.{ℕ, _+_, _-_, _*_, _≤_, _<_}
+use Prim.Native.Nat.{ℕ, _+_, _-_, _≤_, _<_}
 use native.Mathlib.Omega.{arith}
-use lib.ListN.{getD}
 use Rattle.laws.specs.Scan.{firstFrom}
 use Rattle.laws.proofs.Scan.{firstFrom-≤, firstFrom-≥, firstFrom-holds, firstFrom-before, firstFrom-hit, firstFrom-none, firstFrom-skip, firstFrom-short, firstFrom-go-on}
 use Rattle.laws.proofs.Splice.{lt-or-ge}
-use Rattle.geometry.specs.TagMemory.{leafOf, groups, blockPlace, groupPlace}
+use Rattle.geometry.specs.TagMemory.{leafOf, groups, groupPlace}
 use Rattle.geometry.proofs.Places.{leafOf-lt, leafOf-ge, leafOf-≤, groups-≤, groups-leafOf, group-lt}
 use Rattle.block.specs.Block.{groupAt}
 use Rattle.memory.specs.PlainReading.{leafBit}
 use Rattle.tagged.specs.Tagged.{isTagged, isMarked}
-use Rattle.tagged.proofs.Marked.{zero-byte, marked-is, marked-not, untagged, zero-bytes, other-bytes}
+use Rattle.tagged.proofs.Marked.{marked-is, marked-not, untagged, zero-bytes, other-bytes}
 
 -- the leaf of a group between a leaf's first group and the next leaf's
 pub leafOf-is : (k g : ℕ) → groups k ≤ g → g < groups (k + 1) → leafOf g ≡ k
@@ -36,16 +35,9 @@ module _ (n : ℕ) (m : List ℕ) where
       untagged n m c (firstFrom-before (isMarked n m) (leafOf g) end (leafOf c) (leafOf-≤ g c q) (omega arith)))
       (λ (l : groups k ≤ c). absurd (let u : upto ≤ c = f c q l in omega arith)) (lt-or-ge c (groups k)))
 
-  -- past a zero byte of the map
-  pub skip-byte : (k j at end : ℕ) → at ≡ blockPlace n + j → getD m at 0 ≡ 0 → 8 * j ≤ k → k < 8 * j + 8
-      → firstFrom (isMarked n m) (8 * (j + 1)) end ≡ firstFrom (isMarked n m) k end
-  skip-byte k j at end e z h l =
-      let y : getD m (blockPlace n + j) 0 ≡ 0 = rw e at z in
-      firstFrom-skip (isMarked n m) k (8 * (j + 1)) end (omega arith) (λ c q r. zero-byte n m j c y (omega arith) (omega arith))
-
-  -- past a leaf without mark
-  pub skip-leaf : (k end : ℕ) → (leafBit n m k ≡ 1 → ⊥) → firstFrom (isMarked n m) (k + 1) end ≡ firstFrom (isMarked n m) k end
-  skip-leaf k end h = firstFrom-skip (isMarked n m) k (k + 1) end (omega arith) (λ c q r. let e : c ≡ k = omega arith in rw e (marked-not n m k h))
+  -- past leaves without mark
+  pub skip-leaves : (k j end : ℕ) → k ≤ j → ((x : ℕ) → k ≤ x → x < j → leafBit n m x ≡ 0) → firstFrom (isMarked n m) j end ≡ firstFrom (isMarked n m) k end
+  skip-leaves k j end h z = firstFrom-skip (isMarked n m) k j end h (λ c q r. marked-not n m c (λ o. absurd (omega (arith, z c q r))))
 
   pub hit-leaf : (k end : ℕ) → k < end → leafBit n m k ≡ 1 → firstFrom (isMarked n m) k end ≡ k
   hit-leaf k end l h = firstFrom-hit (isMarked n m) k end l (marked-is n m k h)

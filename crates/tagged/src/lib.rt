@@ -1,5 +1,5 @@
 // 02 E1: is anything tagged between here and there? The lowest tagged group from A up to but not including B, and the number of tagged leaves.
-// No public function has a `requires`. Zero map bytes are passed over: time goes with the map's bytes and the tagged leaves, not with the groups.
+// No public function has a `requires`. Zero words of the map are passed over: time goes with the map's words and the tagged leaves, not with the groups.
 use geometry::Geometry;
 ghost use mathlib.Core.Path.{_≡_};
 ghost use mathlib.Core.Bool.{true};
@@ -74,41 +74,22 @@ fn count_marked(n: u32, memory: &[u8], k: u32, l: u32) -> u32
     low + whole + in_byte(n, memory, there, 0, t)
 }
 
-// A leaf from k up to end with no leaf of bit 1 before it: k where its map byte is not zero, else the first leaf of the next byte that is not, or end.
-fn pass_zeros(n: u32, memory: &[u8], k: u32, end: u32) -> u32
-    requires { ⌜ (k ≤ end) × (end ≤ n) × (n ≤ 262144) × (length (now memory) ≡ memoryLength n) ⌝ }
-    ensures { λ r. ⌜ (k ≤ r) × (r ≤ end) × (firstFrom (isMarked n (now (memory .entry))) r end ≡ firstFrom (isMarked n (now (memory .entry))) k end) ⌝ }
-{
-    if end == k {
-        return end;
-    }
-    let base = Geometry::block_place(n);
-    let last = (end - 1) / Geometry::BYTE_BITS;
-    let mut j = k / Geometry::BYTE_BITS;
-    if memory[base + j as usize] != 0 {
-        return k;
-    }
-    j += 1;
-    while j <= last {
-        if memory[base + j as usize] != 0 {
-            return Geometry::BYTE_BITS * j;
-        }
-        j += 1;
-    }
-    end
-}
-
-// The first leaf from k up to but not including end with bit 1; end where there is none.
+// The first leaf from k up to but not including end with bit 1; end where there is none. What is zero of a word of the map, from k's bit on, is passed over at once.
 fn next_marked(n: u32, memory: &[u8], k: u32, end: u32) -> u32
     requires { ⌜ (k ≤ end) × (end ≤ n) × (n ≤ 262144) × (length (now memory) ≡ memoryLength n) ⌝ }
     ensures { λ r. ⌜ r ≡ firstFrom (isMarked n (now (memory .entry))) k end ⌝ }
 {
-    let mut j = pass_zeros(n, memory, k, end);
+    let mut j = k;
     while j < end {
-        if memory::leaf_bit(n, memory, j) == 1 {
-            return j;
+        let rest = memory::map_word(n, memory, j / memory::WORD_BITS) >> (j % memory::WORD_BITS);
+        if rest != 0 {
+            let zeros = u32::trailing_zeros(rest);
+            if end - j <= zeros {
+                return end;
+            }
+            return j + zeros;
         }
-        j = pass_zeros(n, memory, j + 1, end);
+        j = memory::WORD_BITS * (j / memory::WORD_BITS + 1);
     }
     end
 }
@@ -265,18 +246,15 @@ pub fn between(n: u64, memory: &[u8], a: u64, b: u64) -> Tagged
     }
 }
 
-// For C: the lowest tagged group, NONE, or REFUSED plus the refusal.
+// For C: the lowest tagged group, NONE, or REFUSED plus the refusal. A true memory is then taken as true.
 pub fn first_tagged(n: u64, memory: &[u8], a: u64, b: u64) -> u64
     ensures { λ r. ⌜ r ≡ groupNumber (between n (now (memory .entry)) a b) ⌝ }
 {
-    let told = between(n, memory, a, b);
-    if told.refusal != 0 {
-        return REFUSED + told.refusal as u64;
+    let c = refusal(n, memory, a, b);
+    if 0 < c {
+        return REFUSED + c as u64;
     }
-    if told.found {
-        return told.group;
-    }
-    NONE
+    first_tagged_as_true(n, memory, a, b)
 }
 
 // For C: the number of tagged leaves, or REFUSED plus the refusal.

@@ -15,15 +15,12 @@ ghost use Rattle.image.specs.Calls.{writingAnswer, written};
 
 const REFUSED: u64 = 4294967296;
 
-// The bits of a word of the map.
-const WORD_BITS: u32 = 32;
-
 // The leaf after j and the others of its word of the map, or n.
 fn past_word(n: u32, j: u32) -> u32
     requires { ⌜ j < n ⌝ }
     ensures { λ r. ⌜ (j < r) × (r ≤ n) × (r ≤ j / 32 * 32 + 32) ⌝ }
 {
-    let left = WORD_BITS - j % WORD_BITS;
+    let left = memory::WORD_BITS - j % memory::WORD_BITS;
     if n - j <= left {
         return n;
     }
@@ -37,7 +34,7 @@ fn next_marked(n: u32, memory: &[u8], k: u32) -> u32
 {
     let mut j = k;
     while j < n {
-        let rest = memory::map_word(n, memory, j / WORD_BITS) >> (j % WORD_BITS);
+        let rest = memory::map_word(n, memory, j / memory::WORD_BITS) >> (j % memory::WORD_BITS);
         if rest != 0 {
             let zeros = u32::trailing_zeros(rest);
             if n - j <= zeros {
@@ -55,7 +52,7 @@ fn count_marked(n: u32, memory: &[u8]) -> u32
     requires { ⌜ (n ≤ 262144) × (length (now memory) ≡ memoryLength n) × (isTrue n (now memory) ≡ true) ⌝ }
     ensures { λ r. ⌜ r ≡ length (recordsOf n (now (memory .entry))) ⌝ }
 {
-    let end = (n + (WORD_BITS - 1)) / WORD_BITS;
+    let end = (n + (memory::WORD_BITS - 1)) / memory::WORD_BITS;
     let mut m: u32 = 0;
     let mut i: u32 = 0;
     while i < end {

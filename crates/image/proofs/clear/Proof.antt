@@ -1,71 +1,57 @@
--- `image::clear` meets its contract: i zeros are written.
-use mathlib.Core.Path.{_≡_, refl, sym}
-use Prim.Native.Nat.{ℕ, _-_, _≤_}
+-- `image::clear` meets its contract: the part is lent, and comes back as zeros.
+use mathlib.Core.Path.{_≡_, ap, sym, _∙_}
+use Prim.Native.Nat.{ℕ, _+_, _-_}
 use native.Mathlib.Omega.{arith}
-use lib.ListN.{length, length-set, replicate}
-use Rattle.laws.specs.Bytes.{splice}
-use Rattle.laws.proofs.Put.{putW-fits, putW-not}
-use Rattle.laws.proofs.Writes.{splice-none, splice-fill}
+use lib.ListN.{length, take, drop, replicate, length-take, length-drop}
+use Rattle.laws.proofs.Put.{putW-is, putW-not}
 use borrow.Author.Needs.{needs}
 use Rattle.image.proofs.clear.Statement.{statement}
 use Rattle.image.proofs.clear.Tie as tie
 
-abbrev Inv-loop : tie.InvT-loop
-Inv-loop row₀ at count i₀ row i = (i ≤ count) × (length row ≡ length row₀) × (row ≡ splice row₀ at (replicate i 0))
+returns : tie.Need-returns
+returns c = sym (putW-not _ _ (c .before .before .args .at) _ (omega arith))
 
-abbrev μ-loop : tie.MeasureT-loop
-μ-loop row₀ at count i₀ row i = count - i
-
-returns : tie.Need-returns Inv-loop μ-loop
-returns c = sym (putW-not _ _ (c .before .args .at) _ (omega arith))
-
-sub-if2 : tie.Need-sub-if2 Inv-loop μ-loop
+sub-if2 : tie.Need-sub-if2
 sub-if2 c = search needs
 
-returns-2 : tie.Need-returns-2 Inv-loop μ-loop
-returns-2 c = sym (putW-not _ _ (c .before .before .args .at) _ (omega arith))
+returns-2 : tie.Need-returns-2
+returns-2 c = sym (putW-not _ _ (c .before .before .before .args .at) _ (omega arith))
 
-loop-holds : tie.Need-loop-holds Inv-loop μ-loop
-loop-holds c = (omega arith, refl, sym (splice-none _ _))
+add-clear : tie.Need-add-clear
+add-clear c = search needs
 
-add-row : tie.Need-add-row Inv-loop μ-loop
-add-row c = search needs
+sub-clear : tie.Need-sub-clear
+sub-clear c = search needs
 
-slice-write-row : tie.Need-slice-write-row Inv-loop μ-loop
-slice-write-row c = search needs
+part-clear-start : tie.Need-part-clear-start
+part-clear-start c = search needs
 
-add-i : tie.Need-add-i Inv-loop μ-loop
-add-i c = search needs
+part-clear-end : tie.Need-part-clear-end
+part-clear-end c = search needs
 
-loop-less : tie.Need-loop-less Inv-loop μ-loop
-loop-less c = search needs
+clear-requires : tie.Need-clear-requires
+clear-requires c κs = search needs
 
-loop-again : tie.Need-loop-again Inv-loop μ-loop
-loop-again c = let a = c .before .before .before .before .args in
-    (omega arith, simp length-set (omega arith), cc (splice-fill (a .row .now) (a .at) 0 (c .before .loop .i) (omega arith)))
-
-same-length : tie.Need-same-length Inv-loop μ-loop
+same-length : tie.Need-same-length
 same-length c = search needs
 
-returns-3 : tie.Need-returns-3 Inv-loop μ-loop
-returns-3 c = let a = c .before .before .before .before .args in
-    let e : c .before .loop .i ≡ a .count = omega arith in
-    cc (putW-fits (a .count) (a .row .now) (a .at) (replicate {A = ℕ} (a .count) 0) (omega arith))
+returns-3 : tie.Need-returns-3
+returns-3 c = let a = c .before .before .before .before .before .before .before .args in
+    let call = c .before .before .clear in
+    let e : length (take (a .at + a .count - a .at) (drop (a .at) (a .row .now))) ≡ a .count = simp (length-take, length-drop) (omega arith) in
+    putW-is (a .row .now) (a .at) (a .count) (omega arith) (call .ensures ∙ ap (λ (x : ℕ). replicate x 0) e) (call .kept .0)
 
 pub clear-spec : {M : Type 1} → statement M
 clear-spec =
     tie.close
     (tie.spec
-    Inv-loop
-    μ-loop
     returns
     sub-if2
     returns-2
-    loop-holds
-    add-row
-    slice-write-row
-    add-i
-    loop-less
-    loop-again
+    add-clear
+    sub-clear
+    part-clear-start
+    part-clear-end
+    clear-requires
     same-length
     returns-3)

@@ -13,20 +13,17 @@ add-four-at c = search needs
 four-at-requires : tie.Need-four-at-requires
 four-at-requires c κs = search needs
 
-mul-read-block : tie.Need-mul-read-block
-mul-read-block c = search needs
-
-add-read-block : tie.Need-add-read-block
-add-read-block c = search needs
-
-read-block-requires : tie.Need-read-block-requires
-read-block-requires c κs = search needs
-
 block-place-requires : tie.Need-block-place-requires
 block-place-requires c κs = search needs
 
-write-block-requires : tie.Need-write-block-requires
-write-block-requires c κs = search needs
+mul-copy-block : tie.Need-mul-copy-block
+mul-copy-block c = search needs
+
+add-copy-block : tie.Need-add-copy-block
+add-copy-block c = search needs
+
+copy-block-requires : tie.Need-copy-block-requires
+copy-block-requires c κs = search needs
 
 map-place-requires : tie.Need-map-place-requires
 map-place-requires c κs = search needs
@@ -41,7 +38,7 @@ same-length : tie.Need-same-length
 same-length c = search needs
 
 returns : tie.Need-returns
-returns c = let s = c .before .before .before .before .before .before .before .before .before .before .before .before .before .before .before .before in
+returns c = let s = c .before .before .before .before .before .before .before .before .before .before .before .before .before .before in
     cc (put-record-law (s .args .n) (s .args .memory .now) (s .args .row .now) (s .args .i) (s .pre .0) (s .pre .1))
 
 pub put-record-spec : {M : Type 1} → statement M
@@ -51,11 +48,10 @@ put-record-spec =
     mul-four-at
     add-four-at
     four-at-requires
-    mul-read-block
-    add-read-block
-    read-block-requires
     block-place-requires
-    write-block-requires
+    mul-copy-block
+    add-copy-block
+    copy-block-requires
     map-place-requires
     map-bit-of-requires
     put-bit-requires

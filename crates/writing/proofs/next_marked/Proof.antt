@@ -5,7 +5,8 @@ use native.Mathlib.Omega.{arith}
 use lib.Count.{trailingZeros}
 use Rattle.laws.specs.Bytes.{Bytes}
 use Rattle.image.specs.Encode.{recordsBelow}
-use Rattle.writing.proofs.Search.{none-left, found-bit, none-before}
+use Rattle.memory.proofs.Words.{none-left, found, none-before}
+use Rattle.image.proofs.Records.{below-unmarked}
 use borrow.Author.Needs.{needs}
 use Rattle.writing.proofs.next_marked.Statement.{statement}
 use Rattle.writing.proofs.next_marked.Tie as tie
@@ -36,7 +37,7 @@ returns c = let a = c .before .before .before .before .before .before .args in
     let B : Bytes (a .memory .now) = λ x. omega (arith, c .before .before .before .before .before .shared-slice-known .given x) in
     let rest = w .result / 2 ^ (l .j % 32) in
     let small : w .result < 4294967296 = omega (arith, w .ok) in
-    (omega arith, omega arith, none-before (a .n) (a .memory .now) B (l .j) (w .result) rest (w .ensures) small refl (c .before .if1 .taken) (a .n) (omega arith) (omega arith) ∙ l .inv .2, λ h. absurd (omega arith))
+    (omega arith, omega arith, below-unmarked (a .n) (a .memory .now) (l .j) (a .n) (omega arith) (λ x f g. none-before (a .n) (a .memory .now) B (l .j) (w .result) rest (w .ensures) small refl (c .before .if1 .taken) x f (omega arith)) ∙ l .inv .2, λ h. absurd (omega arith))
 
 add-result : tie.Need-add-result Inv-loop μ-loop
 add-result c = omega arith
@@ -52,8 +53,8 @@ returns-2 c = let a = c .before .before .before .before .before .before .args in
     let r = l .j + trailingZeros 32 rest in (
       omega arith,
       omega arith,
-      none-before (a .n) (a .memory .now) B (l .j) (w .result) rest (w .ensures) small refl (c .before .if1 .taken) r (omega arith) (omega arith) ∙ l .inv .2,
-      λ _. found-bit (a .n) (a .memory .now) B (l .j) (w .result) rest (w .ensures) small refl (c .before .if1 .taken),
+      below-unmarked (a .n) (a .memory .now) (l .j) r (omega arith) (none-before (a .n) (a .memory .now) B (l .j) (w .result) rest (w .ensures) small refl (c .before .if1 .taken)) ∙ l .inv .2,
+      λ _. found (a .n) (a .memory .now) B (l .j) (w .result) rest (w .ensures) small refl (c .before .if1 .taken),
     )
 
 past-word-requires : tie.Need-past-word-requires Inv-loop μ-loop
@@ -71,7 +72,7 @@ loop-again c = let a = c .before .before .before .before .before .before .args i
     let rest = w .result / 2 ^ (l .j % 32) in
     let small : w .result < 4294967296 = omega (arith, w .ok) in
     let p = c .past-word .ensures in
-    (omega arith, p .1, none-left (a .n) (a .memory .now) B (l .j) (w .result) rest (w .ensures) small refl (c .before .if1 .left) (c .past-word .result) (p .0) (p .2) ∙ l .inv .2)
+    (omega arith, p .1, below-unmarked (a .n) (a .memory .now) (l .j) (c .past-word .result) (omega arith) (λ x f g. none-left (a .n) (a .memory .now) B (l .j) (w .result) rest (w .ensures) small refl (c .before .if1 .left) x f (omega arith)) ∙ l .inv .2)
 
 returns-3 : tie.Need-returns-3 Inv-loop μ-loop
 returns-3 c = let i = c .before .loop .inv in (i .0, i .1, i .2, λ h. absurd (omega arith))
