@@ -161,7 +161,7 @@ module _ (k : Kept) (row : Row) (a : Ok k row) (w : Bool) (Q : w ≡ false → Q
       record {
         clean = λ i. ⊎-elim
             (λ (l : i < k .state .shape .l). rw is (drains-all (a .agrees .good) (k .state .shape .l) (omega arith) .clean i l))
-            (λ (l : k .state .shape .l ≤ i). ap changed (not-used _ (whole-facts _ (s' .0) .lined .above i (rw is l))) ∙ free-changed)
+            (λ (l : k .state .shape .l ≤ i). ap changed (not-used _ (whole-facts _ (s' .0) .lined .apart .above i (rw is l))) ∙ free-changed)
             (lt-or-ge i (k .state .shape .l));
         reads = λ x b. absurd (not-both-ways (all-rest k s e x) (subst (λ (o : Out). isIdle (trackerAt (o .state .trackers) x) ≡ false) is b));
       }

@@ -12,8 +12,8 @@ use Rattle.line.specs.Word.{used, blockOf, changed, cleaned}
 use Rattle.rules.specs.State.{Rows}
 use Rattle.rules.specs.Place.{lineBytes, writtenBack, drained}
 use Rattle.line.proofs.Words.{blockOf-cleaned, changed-cleaned, used-cleaned}
-use Rattle.rules.proofs.Lined.{at, Has}
-use Rattle.flat.proofs.Contents.{content, Good, content-in, Change, new-or-old, change-good, change-here, change-other}
+use Rattle.rules.proofs.Lined.{at, Has, new-or-old}
+use Rattle.flat.proofs.Contents.{content, Good, content-in, Change, change-good, change-here, change-other}
 use Rattle.flat.proofs.Rows.{Same, back-length, back-rest, back-here}
 
 -- the rows after line i was written back and marked clean
@@ -35,8 +35,8 @@ module _ {B l : ℕ} {r : Rows} (G : Good B l r) (i : ℕ) (il : i < l) where
     here = refl;
     there = λ j q n. refl;
     rest = back-rest G i il;
-    exists = λ u. G .exists i _ (had u);
-    alone = λ u j n h. n (G .one j i _ h (had u));
+    exists = λ u. G .apart .exists i _ (had u);
+    alone = λ u j n h. n (G .apart .one j i _ h (had u));
     clean = λ u e. sym (back-here G i il _ (had u));
   }
 
@@ -44,7 +44,7 @@ module _ {B l : ℕ} {r : Rows} (G : Good B l r) (i : ℕ) (il : i < l) where
   one-good = change-good G cleaning
 
   pub one-had : (j b : ℕ) → Has (set (r .lines) i (cleaned w)) j b → Has (r .lines) j b
-  one-had j b h = ⊎-elim (λ o. subst (λ (k : ℕ). Has (r .lines) k b) (sym (o .0)) (subst (λ (c : ℕ). Has (r .lines) i c) (o .2) (had (o .1)))) (λ o. o .1) (new-or-old G cleaning j b h)
+  one-had j b h = ⊎-elim (λ o. subst (λ (k : ℕ). Has (r .lines) k b) (sym (o .0)) (subst (λ (c : ℕ). Has (r .lines) i c) (o .2) (had (o .1)))) (λ o. o .1) (new-or-old (G .apart) _ _ (cleaning .line-lt) j b h)
 
   pub one-same : (b : ℕ) → b < B → content l (one r i) b ≡ content l r b
   one-same b bl = go (true-or-false (used (cleaned w))) (ℕ-discrete (blockOf (cleaned w)) b)
@@ -73,5 +73,5 @@ drains {B} {l} {r} G (suc i) q = next (drained i r) i (omega arith) (drains G i 
     }
       where
         cl : (j : ℕ) → j < suc i → Dec (j ≡ i) → changed (at (set (d .lines) i (cleaned (at (d .lines) i))) j) ≡ false
-        cl j jl (yes e) = rw (e, getD-set-same (d .lines) i (cleaned (at (d .lines) i)) 0 (omega (arith, D .same .good .lines-long))) (changed-cleaned (at (d .lines) i))
+        cl j jl (yes e) = rw (e, getD-set-same (d .lines) i (cleaned (at (d .lines) i)) 0 (omega (arith, D .same .good .apart .long))) (changed-cleaned (at (d .lines) i))
         cl j jl (no e) = rw (getD-set-other (d .lines) i j (cleaned (at (d .lines) i)) 0 e) (D .clean j (omega arith))

@@ -21,9 +21,9 @@ use Rattle.memory.proofs.Reading.{plainGroup-0, plainGroup-1}
 use Rattle.memory.proofs.Truth.{isTrue-at, isTrue-all, trueAt-0, trueAt-1, trueAt-past}
 use Rattle.tracker.specs.declared.Tracker.{Tracker}
 use Rattle.tracker.specs.Tracker.{idle, isIdle}
-use Rattle.line.specs.Word.{changed}
+use Rattle.line.specs.Word.{used, changed}
 use Rattle.rules.specs.State.{Rows, trackerAt}
-use Rattle.rules.proofs.Lined.{at, Has}
+use Rattle.rules.proofs.Lined.{at, Has, low}
 use Rattle.flat.specs.Flat.{Row, tagged}
 use Rattle.flat.proofs.Views.{block-length, group-block, bit-block, empty-group}
 use Rattle.flat.proofs.Tags.{untagged, tagged-none, tagged-full}
@@ -57,7 +57,7 @@ module _ {n l : ℕ} {r : Rows} {ts : List Tracker} {row : Row} (A : Agrees n l 
   in-memory b = go (lined-or-not (A .good) b)
     where
       go : ((i : ℕ) × Has (r .lines) i b) ⊎ ((i : ℕ) → Has (r .lines) i b → ⊥) → content l r b ≡ blockAt (r .memory) b
-      go (inl o) = content-in (A .good) (o .0) b (o .1) ∙ A .good .clean (o .0) b (o .1) (clean (o .0) (A .good .low (o .0) b (o .1)))
+      go (inl o) = content-in (A .good) (o .0) b (o .1) ∙ A .good .clean (o .0) b (o .1) (clean (o .0) (low (A .good .apart) (o .0) b (o .1)))
       go (inr o) = content-out (A .good) b o
 
   none-finishes : (k x : ℕ) → Finishes (trackerAt ts x) k → ⊥
@@ -142,10 +142,12 @@ module _ (n l : ℕ) (r : Rows) (ts : List Tracker) (lb : length (r .bytes) ≡ 
   begin-good = record {
     bytes-long = lb;
     memory-long = lm;
-    lines-long = ll;
-    low = λ i b h. absurd (free i b h);
-    exists = λ i b h. absurd (free i b h);
-    one = λ i j b h h'. absurd (free i b h);
+    apart = record {
+      long = ll;
+      above = λ i q. ⊎-elim (λ u. absurd (free i _ (record { is-used = u; is-block = refl }))) (λ u. u) (true-or-false (used (at (r .lines) i)));
+      exists = λ i b h. absurd (free i b h);
+      one = λ i j b h h'. absurd (free i b h);
+    };
     clean = λ i b h e. absurd (free i b h);
   }
 

@@ -23,10 +23,10 @@ use Rattle.rules.specs.State.{Rows}
 use Rattle.rules.specs.Place.{lineBytes, rowsFit, placeLine, writtenBack, Brought, filled, withMemory, withLines, bringIn}
 use Rattle.line.proofs.Words.{blockOf-word, changed-word, free-used, not-used, used-word}
 use Rattle.rules.proofs.Words.{blockOf-heldBy, changed-heldBy, used-heldBy}
-use Rattle.rules.proofs.Lined.{at, Has, Lined, low, lineOf-none}
+use Rattle.rules.proofs.Lined.{at, Has, Lined, low, lineOf-none, new-or-old, has-other}
 use Rattle.rules.proofs.Placed.{place-loose, place-memory, bring-found, bring-placed}
 use Rattle.flat.proofs.Views.{Has64, block-length, put-length, put-here, put-there}
-use Rattle.flat.proofs.Contents.{content, Good, lined-or-not, content-in, content-out, Change, new-or-old, still-has, change-good, change-here, change-other, change-gone, marked-good, marked-content, marked-had}
+use Rattle.flat.proofs.Contents.{content, Good, lined-or-not, content-in, content-out, Change, change-good, change-here, change-other, change-gone, marked-good, marked-content, marked-had}
 
 -- a changed line is not free
 changed-used : (w : ℕ) → changed w ≡ true → used w ≡ true
@@ -69,7 +69,7 @@ module _ {B l : ℕ} {r : Rows} (G : Good B l r) where
   content-length b q = go (lined-or-not G b)
     where
       go : ((i : ℕ) × Has (r .lines) i b) ⊎ ((i : ℕ) → Has (r .lines) i b → ⊥) → length (content l r b) ≡ 64
-      go (inl o) = ap length (content-in G (o .0) b (o .1)) ∙ line-length (o .0) (G .low (o .0) b (o .1))
+      go (inl o) = ap length (content-in G (o .0) b (o .1)) ∙ line-length (o .0) (low (G .apart) (o .0) b (o .1))
       go (inr o) = ap length (content-out G b o) ∙ block-length (r .memory) b (block-64 b q)
 
   -- a line written back: memory then has its block as it is now
@@ -83,7 +83,7 @@ module _ {B l : ℕ} {r : Rows} (G : Good B l r) where
       where
         go : (c : Bool) → changed (at (r .lines) i) ≡ c → length (pick c (putW 64 (r .memory) (blockPlace (blockOf (at (r .lines) i))) (lineBytes (r .bytes) i)) (r .memory)) ≡ 64 * B
         go false e = G .memory-long
-        go true e = put-length (r .memory) (blockOf (at (r .lines) i)) (block-64 _ (G .exists i _ (own e))) (lineBytes (r .bytes) i) (line-length i il) ∙ G .memory-long
+        go true e = put-length (r .memory) (blockOf (at (r .lines) i)) (block-64 _ (G .apart .exists i _ (own e))) (lineBytes (r .bytes) i) (line-length i il) ∙ G .memory-long
 
     pub back-rest : (b : ℕ) → b < B → (Has (r .lines) i b → ⊥) → blockAt (writtenBack (r .lines) (r .bytes) (r .memory) i) b ≡ blockAt (r .memory) b
     unfolding writtenBack
@@ -91,7 +91,7 @@ module _ {B l : ℕ} {r : Rows} (G : Good B l r) where
       where
         go : (c : Bool) → changed (at (r .lines) i) ≡ c → blockAt (pick c (putW 64 (r .memory) (blockPlace (blockOf (at (r .lines) i))) (lineBytes (r .bytes) i)) (r .memory)) b ≡ blockAt (r .memory) b
         go false e = refl
-        go true e = put-there (r .memory) (blockOf (at (r .lines) i)) (block-64 _ (G .exists i _ (own e))) (lineBytes (r .bytes) i) (line-length i il) b (block-64 b bl)
+        go true e = put-there (r .memory) (blockOf (at (r .lines) i)) (block-64 _ (G .apart .exists i _ (own e))) (lineBytes (r .bytes) i) (line-length i il) b (block-64 b bl)
             (λ q. n (rw q (own e)))
 
     pub back-here : (b : ℕ) → Has (r .lines) i b → blockAt (writtenBack (r .lines) (r .bytes) (r .memory) i) b ≡ lineBytes (r .bytes) i
@@ -100,7 +100,7 @@ module _ {B l : ℕ} {r : Rows} (G : Good B l r) where
       where
         go : (c : Bool) → changed (at (r .lines) i) ≡ c → blockAt (pick c (putW 64 (r .memory) (blockPlace (blockOf (at (r .lines) i))) (lineBytes (r .bytes) i)) (r .memory)) b ≡ lineBytes (r .bytes) i
         go false e = sym (G .clean i b h e)
-        go true e = rw (h .is-block) (put-here (r .memory) b (block-64 b (G .exists i b h)) (lineBytes (r .bytes) i) (line-length i il))
+        go true e = rw (h .is-block) (put-here (r .memory) b (block-64 b (G .apart .exists i b h)) (lineBytes (r .bytes) i) (line-length i il))
 
   -- placing: what was in the line is first written back
   module _ {i b : ℕ} {c : Bool} {y : List ℕ} (p : Placing B l r i b c y) where
@@ -150,7 +150,7 @@ module _ {B l : ℕ} {r : Rows} (G : Good B l r) where
         go (inr u) q = change-other G placing d dl (λ h. not-both-ways (h .is-used) u) other
 
     pub placed-had : (j d : ℕ) → Has (set (r .lines) i (word b c 0)) j d → Has (r .lines) j d ⊎ (d ≡ b)
-    placed-had j d h = ⊎-elim (λ o. inr (sym (o .2) ∙ is-block)) (λ o. inl (o .1)) (new-or-old G placing j d h)
+    placed-had j d h = ⊎-elim (λ o. inr (sym (o .2) ∙ is-block)) (λ o. inl (o .1)) (new-or-old (G .apart) _ _ (placing .line-lt) j d h)
 
   -- writing: the line is changed then, or made free
   module _ {i b : ℕ} {bytes' y : List ℕ} (w : Writing B l r i b bytes' y) where
@@ -158,7 +158,7 @@ module _ {B l : ℕ} {r : Rows} (G : Good B l r) where
     h = w .has-it
 
     b-small : b < lineBlocks
-    b-small = omega (arith, G .exists i b h, w .small)
+    b-small = omega (arith, G .apart .exists i b h, w .small)
 
     w-used : used (word b true 0) ≡ true
     w-used = used-word b true 0 b-small (omega arith)
@@ -174,14 +174,14 @@ module _ {B l : ℕ} {r : Rows} (G : Good B l r) where
 
     writing : Change B l r i (word b true 0) bytes' (r .memory) y
     writing = record {
-      line-lt = G .low i b h;
+      line-lt = low (G .apart) i b h;
       bytes-long = w .long ∙ G .bytes-long;
       memory-long = G .memory-long;
       here = w .here;
       there = w .there;
       rest = λ d dl n. refl;
-      exists = λ u. rw w-block (G .exists i b h);
-      alone = λ u j n h'. n (G .one j i b (rw w-block at h') h);
+      exists = λ u. rw w-block (G .apart .exists i b h);
+      alone = λ u j n h'. n (G .apart .one j i b (rw w-block at h') h);
       clean = λ u e. absurd (not-both-ways (changed-word b true 0 b-small (omega arith)) e);
     }
 
@@ -195,14 +195,14 @@ module _ {B l : ℕ} {r : Rows} (G : Good B l r) where
     written-other d dl n = change-other G writing d dl (λ h'. n (sym (h' .is-block) ∙ h .is-block)) (λ u q. n (sym q ∙ w-block))
 
     pub written-had : (j d : ℕ) → Has (set (r .lines) i (word b true 0)) j d → Has (r .lines) j d
-    written-had j d h' = ⊎-elim (λ o. subst (λ (z : ℕ). Has (r .lines) z d) (sym (o .0)) (subst (λ (z : ℕ). Has (r .lines) i z) (sym w-block ∙ o .2) h)) (λ o. o .1) (new-or-old G writing j d h')
+    written-had j d h' = ⊎-elim (λ o. subst (λ (z : ℕ). Has (r .lines) z d) (sym (o .0)) (subst (λ (z : ℕ). Has (r .lines) i z) (sym w-block ∙ o .2) h)) (λ o. o .1) (new-or-old (G .apart) _ _ (writing .line-lt) j d h')
 
     pub written-still : (j d : ℕ) → (j ≡ i → ⊥) → Has (r .lines) j d → Has (set (r .lines) i (word b true 0)) j d
-    written-still j d n h' = still-has G writing j d n h'
+    written-still j d n h' = has-other (G .apart) _ _ (writing .line-lt) j d n h'
 
     freeing : Change B l r i 0 bytes' (r .memory) y
     freeing = record {
-      line-lt = G .low i b h;
+      line-lt = low (G .apart) i b h;
       bytes-long = w .long ∙ G .bytes-long;
       memory-long = G .memory-long;
       here = w .here;
@@ -221,12 +221,12 @@ module _ {B l : ℕ} {r : Rows} (G : Good B l r) where
 
     pub freed-had : (j d : ℕ) → Has (set (r .lines) i 0) j d → Has (r .lines) j d × (d ≡ b → ⊥)
     freed-had j d h' = ⊎-elim (λ o. absurd (not-both-ways (o .1) free-used))
-        (λ o. (o .1, λ q. o .0 (G .one j i b (subst (λ (z : ℕ). Has (r .lines) j z) q (o .1)) h))) (new-or-old G freeing j d h')
+        (λ o. (o .1, λ q. o .0 (G .apart .one j i b (subst (λ (z : ℕ). Has (r .lines) j z) q (o .1)) h))) (new-or-old (G .apart) _ _ (freeing .line-lt) j d h')
 
   -- line i, which has a block, names another holder, or none
   module _ (i b k : ℕ) (h : Has (r .lines) i b) (small : B < lineBlocks) (kl : k < marks) where
     m-small : blockOf (at (r .lines) i) < lineBlocks
-    m-small = rw (h .is-block) (omega (arith, G .exists i b h))
+    m-small = rw (h .is-block) (omega (arith, G .apart .exists i b h))
 
     abbrev marked : List ℕ
     marked = set (r .lines) i (heldBy (at (r .lines) i) k)
@@ -236,11 +236,11 @@ module _ {B l : ℕ} {r : Rows} (G : Good B l r) where
     says f e j = go (ℕ-discrete j i)
       where
         go : Dec (j ≡ i) → f (at marked j) ≡ f (at (r .lines) j)
-        go (yes q) = rw (q, getD-set-same (r .lines) i (heldBy (at (r .lines) i) k) 0 (omega (arith, G .low i b h, G .lines-long))) e
+        go (yes q) = rw (q, getD-set-same (r .lines) i (heldBy (at (r .lines) i) k) 0 (omega (arith, low (G .apart) i b h, G .apart .long))) e
         go (no q) = ap f (getD-set-other (r .lines) i j (heldBy (at (r .lines) i) k) 0 q)
 
     long' : l ≤ length marked
-    long' = rw (length-set (r .lines) i (heldBy (at (r .lines) i) k)) (G .lines-long)
+    long' = rw (length-set (r .lines) i (heldBy (at (r .lines) i) k)) (G .apart .long)
 
     u-same : (j : ℕ) → used (at marked j) ≡ used (at (r .lines) j)
     u-same = says used (used-heldBy _ k m-small kl ∙ sym (h .is-used))
@@ -265,7 +265,7 @@ pub record BringsIn (B l : ℕ) (r : Rows) (b : ℕ) (o : Brought) : Type 0 wher
   pub rows : Same B l r (o .rows)
   pub had : (j d : ℕ) → Has (o .rows .lines) j d → Has (r .lines) j d ⊎ (d ≡ b)
 
-module _ (shape : Shape) {B : ℕ} {H : ℕ → ℕ} (r : Rows) (b : ℕ) (G : Good B (shape .l) r) (v : Lined B (shape .l) (shape .t) H (r .lines)) (few : shape .t < shape .l) (fit : rowsFit (shape .l) (r .lines) (r .bytes) ≡ true)
+module _ (shape : Shape) {B h : ℕ} {H : ℕ → ℕ → ℕ} (r : Rows) (b : ℕ) (G : Good B (shape .l) r) (v : Lined B (shape .l) (shape .t) h H (r .lines)) (few : shape .t * h < shape .l) (fit : rowsFit (shape .l) (r .lines) (r .bytes) ≡ true)
     (bl : b < B) (small : B < lineBlocks) where
   pub brings-in : BringsIn B (shape .l) r b (bringIn shape b r)
   brings-in = go (lt-or-ge (lineOf (r .lines) (shape .l) b) (shape .l))
@@ -280,7 +280,7 @@ module _ (shape : Shape) {B : ℕ} {H : ℕ → ℕ} (r : Rows) (b : ℕ) (G : G
         exists = bl;
         small = small;
         long = block-length (r .memory) b (omega (arith, G .memory-long));
-        nobody = λ j h. lineOf-none (r .lines) (shape .l) b j q (G .low j b h) h;
+        nobody = λ j h. lineOf-none (r .lines) (shape .l) b j q (low (G .apart) j b h) h;
         clean = λ _. refl;
       }
 

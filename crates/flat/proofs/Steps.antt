@@ -32,10 +32,10 @@ use Rattle.rules.specs.Place.{lineBytes, placeLine, placeHand, Brought, filled,
 use Rattle.rules.specs.Step.{Turned, ends, goes, waits, turnsOf, groupIn, bitIn, letGo, probe, holdsMap, onMap, map, leafRead, putIn, writeUnder1, writeUnder0, newLeaf, leafWrite, finish, holding, byPhase}
 use Rattle.rules.proofs.Words.{held-holder, holder-held}
 use Rattle.rules.proofs.Lined.{at, Has, Held, low, lineOf-is, lineOf-has}
-use Rattle.rules.proofs.Whole.{heldOf, heldOf-yes, heldOf-holds, l-least, t-most}
+use Rattle.rules.proofs.Whole.{heldBy, heldLines, heldOf-yes, heldOf-holds, l-least, t-most}
 use Rattle.rules.proofs.Placed.{Brings, brings, place-loose, place-memory}
 use Rattle.rules.proofs.Keeps.{Situation, blocks-small, j-lt, j-has, j-holder}
-use Rattle.rules.proofs.Ways.{probe-miss, probe-read, probe-same, probe-other, map-read, map-same, map-create, map-hold, map-wait, map-on, leafRead-is, write1-same, write1-put, write0-same, write0-place, leafWrite-0, leafWrite-1, bytesWith, putIn-empty, putIn-done, inLine-is}
+use Rattle.rules.proofs.Ways.{probe-miss, probe-read, probe-same, probe-other, map-read, map-same, map-create, map-hold, map-wait, map-on, leafRead-is, write1-same, write1-put, write0-same, write0-place, leafWrite-0, leafWrite-1, bytesWith, putIn-empty, putIn-done, finish-is, inLine-is}
 use Rattle.flat.specs.Flat.{Row, put, tagged, after, answer, Course, course, says, rowBy, trackerBy, someHolds}
 use Rattle.flat.proofs.Views.{Has64, group-block, bit-block, group-here, group-there, group-whole, bit-here, bit-there, bit-whole, put-groups, group-length, put-long, zeros, zeros-long, new-leaf}
 use Rattle.flat.proofs.Tags.{untagged, tagged-at, tagged-empty, tagged-full}
@@ -128,7 +128,7 @@ module _ (sit : Situation) (row : Row) (A : Agrees (sit .shape .n) (sit .shape .
   bit-ok : leafOf (u .group) < 512 * mapBlocks n
   bit-ok = leaf-has-bit n _ leaf-ok
 
-  few : t < l
+  few : t * heldLines < l
   few = omega (arith, l-least shape (sit .limits-ok))
 
   small : blocks n < lineBlocks
@@ -145,7 +145,7 @@ module _ (sit : Situation) (row : Row) (A : Agrees (sit .shape .n) (sit .shape .
 
   -- a tracker at Leaf or Finish is below t, and its map block's line names it
   named-line : (y : ℕ) → holdsAt (trackerAt ts y .phase) ≡ true → Held (r .lines) y (mapBlock n (trackerAt ts y .group))
-  named-line y h = sit .lined .in-line y (mapBlock n (trackerAt ts y .group)) (⊎-elim (λ q. q) (λ q. absurd (not-both-ways h (idle-loose (trackerAt ts y .phase) (sit .tracked .above y q)))) (lt-or-ge y t)) (heldOf-yes n ts y h)
+  named-line y h = sit .lined .in-line y 0 (mapBlock n (trackerAt ts y .group)) (⊎-elim (λ q. q) (λ q. absurd (not-both-ways h (idle-loose (trackerAt ts y .phase) (sit .tracked .above y q)))) (lt-or-ge y t)) (omega arith) (heldOf-yes n ts y h)
 
   finish-block : (y j : ℕ) → Finishes (trackerAt ts y) j → mapBlock n (trackerAt ts y .group) ≡ n + mapBlockOf j
   finish-block y j f = ap (λ (z : ℕ). n + mapBlockOf z) (f .is-leaf)
@@ -156,15 +156,15 @@ module _ (sit : Situation) (row : Row) (A : Agrees (sit .shape .n) (sit .shape .
     line-64 i q = omega (arith, S .good .bytes-long)
 
     shown : (i b : ℕ) → Has (rr .lines) i b → lineBytes (rr .bytes) i ≡ content l r b
-    shown i b h = sym (content-in (S .good) i b h) ∙ S .same b (S .good .exists i b h)
+    shown i b h = sym (content-in (S .good) i b h) ∙ S .same b (S .good .apart .exists i b h)
 
     group-read : (i : ℕ) → Has (rr .lines) i (leafOf (u .group)) → tagged row (leafOf (u .group)) ≡ true → groupIn (rr .bytes) i (u .group) ≡ row (u .group)
-    group-read i h e = group-block (rr .bytes) i (line-64 i (S .good .low i _ h)) (byteOf (u .group)) (byteOf-lt (u .group))
+    group-read i h e = group-block (rr .bytes) i (line-64 i (low (S .good .apart) i _ h)) (byteOf (u .group)) (byteOf-lt (u .group))
         ∙ ap (λ (c : List ℕ). groupAt c (byteOf (u .group))) (shown i (leafOf (u .group)) h) ∙ sym (A .live (u .group) group-ok e)
 
     bit-read : (i : ℕ) → Has (rr .lines) i (mapBlock n (u .group)) → ((y : ℕ) → Finishes (trackerAt ts y) (leafOf (u .group)) → ⊥)
         → bitIn (rr .bytes) i (u .group) ≡ pick (tagged row (leafOf (u .group))) 1 0
-    bit-read i h none = bit-block (rr .bytes) i (line-64 i (S .good .low i _ h)) (mapByteOf (leafOf (u .group))) (mapBitOf (leafOf (u .group))) (mapByteOf-lt (leafOf (u .group)))
+    bit-read i h none = bit-block (rr .bytes) i (line-64 i (low (S .good .apart) i _ h)) (mapByteOf (leafOf (u .group))) (mapBitOf (leafOf (u .group))) (mapByteOf-lt (leafOf (u .group)))
         ∙ ap (λ (c : List ℕ). bitOn c (leafOf (u .group))) (shown i (mapBlock n (u .group)) h) ∙ A .bits (leafOf (u .group)) bit-ok none
 
   here : Same (blocks n) l r r
@@ -204,7 +204,7 @@ module _ (sit : Situation) (row : Row) (A : Agrees (sit .shape .n) (sit .shape .
             eqs (no d) = rw (probe-other shape u r q w d) (probe-to (probe-goes row found hd u (other-something row u w (λ e. d (g ∙ e)))))
 
   -- bringing in
-  map-brings : Brings shape (blocks n) (heldOf n ts) r (mapBlock n (u .group)) (bringIn shape (mapBlock n (u .group)) r)
+  map-brings : Brings shape (blocks n) heldLines (heldBy n ts) r (mapBlock n (u .group)) (bringIn shape (mapBlock n (u .group)) r)
   map-brings = brings shape r (mapBlock n (u .group)) (sit .lined) few (sit .rows-fit) (sit .hand-lt) map-ok small
 
   map-in : BringsIn (blocks n) l r (mapBlock n (u .group)) (bringIn shape (mapBlock n (u .group)) r)
@@ -213,7 +213,7 @@ module _ (sit : Situation) (row : Row) (A : Agrees (sit .shape .n) (sit .shape .
   leaf-small : leafOf (u .group) < blocks n
   leaf-small = omega (arith, leaf-ok)
 
-  leaf-brings : Brings shape (blocks n) (heldOf n ts) r (leafOf (u .group)) (bringIn shape (leafOf (u .group)) r)
+  leaf-brings : Brings shape (blocks n) heldLines (heldBy n ts) r (leafOf (u .group)) (bringIn shape (leafOf (u .group)) r)
   leaf-brings = brings shape r (leafOf (u .group)) (sit .lined) few (sit .rows-fit) (sit .hand-lt) leaf-small small
 
   leaf-in : BringsIn (blocks n) l r (leafOf (u .group)) (bringIn shape (leafOf (u .group)) r)
@@ -269,7 +269,7 @@ module _ (sit : Situation) (row : Row) (A : Agrees (sit .shape .n) (sit .shape .
         let p : 0 < holder (at (r .lines) i) = held-holder _ h in
         let o = sit .lined .named i (mapBlock n (u .group)) (lineOf-has (r .lines) l _ q) p in
         let z = o .0 in
-        let hy : holds n (trackerAt ts (holder (at (r .lines) i) - 1)) (mapBlock n (u .group)) ≡ true = heldOf-holds n ts _ _ (o .1) in
+        let hy : holds n (trackerAt ts (holder (at (r .lines) i) - 1)) (mapBlock n (u .group)) ≡ true = heldOf-holds n ts _ _ (o .1 .is-held) in
         let yl : holder (at (r .lines) i) - 1 < t = omega arith in
         rw (all-fails (λ y. negated (holds n (trackerAt ts y) (mapBlock n (u .group)))) t (holder (at (r .lines) i) - 1) yl (rw hy))
 
@@ -287,10 +287,10 @@ module _ (sit : Situation) (row : Row) (A : Agrees (sit .shape .n) (sit .shape .
     not-named e y h m =
         let w = named-line y h in
         let hm : Has (r .lines) (w .line) (mapBlock n (u .group)) = rw m at (w .has-it) in
-        let i : lineOf (r .lines) l (mapBlock n (u .group)) ≡ w .line = lineOf-is (sit .lined) (w .line) _ hm in
+        let i : lineOf (r .lines) l (mapBlock n (u .group)) ≡ w .line = lineOf-is (sit .lined .apart) (w .line) _ hm in
         let p : 0 < holder (at (r .lines) (w .line)) = omega (arith, w .is-holder) in
         let hh : held (at (r .lines) (lineOf (r .lines) l (mapBlock n (u .group)))) ≡ true = rw i (holder-held _ p) in
-        not-both-ways (both-true _ _ (rw i (lt-ltb _ _ (low (sit .lined) (w .line) _ hm))) hh) e
+        not-both-ways (both-true _ _ (rw i (lt-ltb _ _ (low (sit .lined .apart) (w .line) _ hm))) hh) e
 
     plays-map : (found hd : Bool) → hd ≡ someHolds n t ts (mapBlock n (u .group)) → Plays n l x ts row u (course row found hd u Map) (map shape x u r)
     plays-map found hd hs = go (lt-or-ge (lineOf (r .lines) l (mapBlock n (u .group))) l) (true-or-false (held (at (r .lines) (lineOf (r .lines) l (mapBlock n (u .group))))))
@@ -323,7 +323,7 @@ module _ (sit : Situation) (row : Row) (A : Agrees (sit .shape .n) (sit .shape .
     alone y ne hy e =
         let w = named-line y hy in
         let hm : Has (r .lines) (w .line) (mapBlock n (u .group)) = rw e at (w .has-it) in
-        let i : w .line ≡ j = sit .lined .one (w .line) j (mapBlock n (u .group)) hm in-j in
+        let i : w .line ≡ j = sit .lined .apart .one (w .line) j (mapBlock n (u .group)) hm in-j in
         let z : holder (at (r .lines) j) ≡ y + 1 = ap (λ (a : ℕ). holder (at (r .lines) a)) (sym i) ∙ w .is-holder in
         ne (omega (arith, named-j))
 
@@ -345,7 +345,7 @@ module _ (sit : Situation) (row : Row) (A : Agrees (sit .shape .n) (sit .shape .
       fy = putBit (lineBytes (r .bytes) j) fo fb bit
 
       f64 : Has64 (r .bytes) j
-      f64 = line-64 here j (A .good .low j fm in-j)
+      f64 = line-64 here j (low (A .good .apart) j fm in-j)
 
       flong : length fbytes ≡ length (r .bytes)
       flong = bit-whole (r .bytes) j f64 fo fb bit (mapByteOf-lt _) (mapBitOf-lt _)
@@ -360,14 +360,13 @@ module _ (sit : Situation) (row : Row) (A : Agrees (sit .shape .n) (sit .shape .
       bit-write = record { has-it = in-j; small = small; long = flong; here = fhere; there = fthere }
 
       plays-finish : Plays n l x ts row u Course.finishes (finish shape j bit u r)
-      unfolding finish
-      plays-finish = plays-finishes shape refl (agrees-bit A x xlong idle zero-ok (leafOf (u .group)) bit leaf-ok bl tg
+      plays-finish = rw (finish-is shape j bit u r (in-j .is-block)) (plays-finishes shape refl (agrees-bit A x xlong idle zero-ok (leafOf (u .group)) bit leaf-ok bl tg
           (λ k' f. sym (f .is-leaf) ∙ ap (λ (z : Tracker). leafOf (z .group)) (sit .is-u))
           (written-good (A .good) bit-write)
           (λ d q ne. written-other (A .good) bit-write d q ne)
           (written-here (A .good) bit-write ∙ ap (λ (c : List ℕ). putBit c fo fb bit) (sym (content-in (A .good) j fm in-j)))
           (λ i d q hd. A .lined i d q (written-had (A .good) bit-write i d hd))
-          tt)
+          tt))
 
     -- Leaf
     module _ (ph : u .phase ≡ Leaf) (found hd : Bool) where
@@ -389,7 +388,7 @@ module _ (sit : Situation) (row : Row) (A : Agrees (sit .shape .n) (sit .shape .
       zero-mark = omega arith
 
       -- it ends where it is, the row as it was, and lets go
-      let-go-here : Agrees n l (withLines r (letGo (r .lines) j)) (set ts x idle) row
+      let-go-here : Agrees n l (withLines r (letGo false (r .lines) j)) (set ts x idle) row
       let-go-here = moves-on (mark-same (A .good) j _ 0 in-j small zero-mark)
           (λ i d q hd. A .lined i d q (mark-had (A .good) j _ 0 in-j small zero-mark i d hd)) Leaf ph refl idle zero-ok tt
 
@@ -397,7 +396,7 @@ module _ (sit : Situation) (row : Row) (A : Agrees (sit .shape .n) (sit .shape .
         leaf-lined : (i d : ℕ) → d < n → Has (b .rows .lines) i d → tagged row d ≡ true
         leaf-lined i d q hd = ⊎-elim (λ o. A .lined i d q o) (λ e. rw e tg) (leaf-in .had i d hd)
 
-        let-go-there : Agrees n l (withLines (b .rows) (letGo (b .rows .lines) j)) (set ts x idle) row
+        let-go-there : Agrees n l (withLines (b .rows) (letGo false (b .rows .lines) j)) (set ts x idle) row
         let-go-there = moves-on (same-then (leaf-in .rows) (mark-same (leaf-in .rows .good) j _ 0 in-j-still small zero-mark))
             (λ i d q hd. leaf-lined i d q (mark-had (leaf-in .rows .good) j _ 0 in-j-still small zero-mark i d hd)) Leaf ph refl idle zero-ok tt
 
@@ -474,11 +473,11 @@ module _ (sit : Situation) (row : Row) (A : Agrees (sit .shape .n) (sit .shape .
           w-j : Has (written .lines) j (mapBlock n (u .group))
           w-j = written-still (leaf-in .rows .good) put-write j _ apart in-j-still
 
-          w-mark : Same (blocks n) l written (withLines written (letGo (written .lines) j))
+          w-mark : Same (blocks n) l written (withLines written (letGo false (written .lines) j))
           w-mark = mark-same w-good j _ 0 w-j small zero-mark
 
           stays : allZero withV ≡ false → Plays n l x ts row u (course row found hd u Leaf)
-              (ends (done (turnsOf u)) (b .shape) (withLines written (letGo (written .lines) j)))
+              (ends (done (turnsOf u)) (b .shape) (withLines written (letGo false (written .lines) j)))
           stays z =
               let on : tagged (put row (u .group) (u .value)) (leafOf (u .group)) ≡ true = tagged-full (put row (u .group) (u .value)) (leafOf (u .group)) withV v-long new-groups z in
               plays-ends (b .shape) (done (turnsOf u)) (leaf-done row found hd u (other-something row u wr ne) tg (rw (after-write row u wr) on)) (sym (answer-done row u wr ne))

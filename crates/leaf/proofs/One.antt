@@ -1,10 +1,12 @@
 -- Two results that a promise allows for one input are equal: both are the rule's.
-use mathlib.Core.Path.{_≡_}
+use mathlib.Core.Path.{_≡_, sym, _∙_}
+use mathlib.Core.Bool.{Bool}
 use mathlib.Core.List.{List, []}
 use Prim.Native.Nat.{ℕ}
 use Rattle.geometry.specs.declared.Shape.{Shape}
 use Rattle.tracker.specs.declared.Tracker.{Tracker}
 use Rattle.rules.specs.State.{Rows}
+use Rattle.rules.specs.Step.{letGo}
 use Rattle.lines.specs.Lines.{rows}
 use Rattle.turned.specs.declared.Turned as left
 use Rattle.turned.specs.Steps.{turned}
@@ -20,3 +22,6 @@ pub leaf-one : (shape : Shape) (j bit : ℕ) (t : Tracker) (was : Rows) (r s : l
     → turned r ls bs m ≡ leafOn shape j bit t was
     → turned s ls′ bs′ m′ ≡ leafOn shape j bit t was → (r ≡ s) × (rows ls bs m ≡ rows ls′ bs′ m′)
 leaf-one shape j bit t was r s ls bs m ls′ bs′ m′ p q = (turned-one r s _ _ _ _ _ _ p q, rows-one r s _ _ _ _ _ _ p q)
+
+pub let-go-one : (changed : Bool) (lines : List ℕ) (i : ℕ) {r s : List ℕ} → r ≡ letGo changed lines i → s ≡ letGo changed lines i → r ≡ s
+let-go-one changed lines i p q = p ∙ sym q

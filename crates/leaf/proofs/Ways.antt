@@ -68,7 +68,7 @@ module _ (shape : Shape) (j k : ℕ) (t : Tracker) (lines bytes memory : List �
   unfolding leafRead
   leafRead-none o = rw (leaf-in, le-ltb _ _ o, leaf-none o) refl
 
-  pub leafRead-ends : (v : ℕ) (gone : List ℕ) → i < shape .l → v ≡ groupIn bs i (t .group) → gone ≡ letGo ls j
+  pub leafRead-ends : (v : ℕ) (gone : List ℕ) → i < shape .l → v ≡ groupIn bs i (t .group) → gone ≡ letGo false ls j
       → leafRead shape j t (rows lines bytes memory) ≡ ends (read v (turnsOf t)) next (rows gone bs m)
   unfolding leafRead
   leafRead-ends v gone o ev ej = rw (leaf-in, lt-ltb _ _ o, ev, ej) refl
@@ -78,7 +78,7 @@ module _ (shape : Shape) (j k : ℕ) (t : Tracker) (lines bytes memory : List �
   writeUnder1-none o = rw (leaf-in, le-ltb _ _ o, leaf-none o) refl
 
   module _ (v : ℕ) (o : i < shape .l) (ev : v ≡ groupIn bs i (t .group)) where
-    pub writeUnder1-same : (gone : List ℕ) → v ≡ t .value → gone ≡ letGo ls j
+    pub writeUnder1-same : (gone : List ℕ) → v ≡ t .value → gone ≡ letGo false ls j
         → writeUnder1 shape j t (rows lines bytes memory) ≡ ends (same (turnsOf t)) next (rows gone bs m)
     unfolding writeUnder1
     writeUnder1-same gone q ej = rw (leaf-in, lt-ltb _ _ o, ← ev, eq-eqb _ _ q, ej) refl
@@ -97,7 +97,7 @@ module _ (j i : ℕ) (shape : Shape) (at : ℕ) (t : Tracker) (lines bytes bs m 
   unfolding putIn
   putIn-clear y = rw (all-zero, y, eb, ea) refl
 
-  pub putIn-done : (k w : ℕ) (gone : List ℕ) → z ≡ false → k ≡ leafOf (t .group) → w ≡ word k true 0 → gone ≡ letGo (set lines i w) j
+  pub putIn-done : (k w : ℕ) (gone : List ℕ) → z ≡ false → k ≡ leafOf (t .group) → w ≡ word k true 0 → gone ≡ letGo false (set lines i w) j
       → putIn j t (record { line = i; shape = shape; rows = rows lines bytes m }) ≡ ends (done (turnsOf t)) shape (rows gone bs m)
   unfolding putIn
   putIn-done k w gone y ek ew ej = rw (all-zero, y, ej, ew, ek, eb, ea) refl
@@ -108,7 +108,7 @@ pub created : (i : ℕ) (shape : Shape) (k w : ℕ) (t : Tracker) (lines bytes b
 created i shape k w t lines bytes bs m leaf ek ew el eb = rw (eb, el, ew, ek) refl
 
 module _ (shape : Shape) (j : ℕ) (t : Tracker) (lines bytes memory : List ℕ) where
-  pub writeUnder0-same : (gone : List ℕ) → t .value ≡ 0 → gone ≡ letGo lines j
+  pub writeUnder0-same : (gone : List ℕ) → t .value ≡ 0 → gone ≡ letGo false lines j
       → writeUnder0 shape j t (rows lines bytes memory) ≡ ends (same (turnsOf t)) shape (rows gone bytes memory)
   unfolding writeUnder0
   writeUnder0-same gone q ej = rw (eq-eqb _ _ q, ej) refl

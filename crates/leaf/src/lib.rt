@@ -11,9 +11,10 @@ ghost use mathlib.Core.Bool.{true};
 ghost use Prim.Native.Nat.{ℕ, _+_, _*_, _≤_, _<_};
 ghost use lib.Dec.{ltb};
 ghost use lib.ListN.{length};
-ghost use Rattle.laws.specs.Choice.{both};
+ghost use Rattle.laws.specs.Choice.{pick, both};
 ghost use Rattle.geometry.specs.TagMemory.{leafOf};
 ghost use Rattle.tracker.specs.declared.Phase.the-variants.{Set};
+ghost use Rattle.line.specs.Word.{blockOf, word, heldBy};
 ghost use Rattle.rules.specs.Place.{rowsFit, filled};
 ghost use Rattle.rules.specs.Step.{goes, groupIn, letGo, newLeaf, leafRead, putIn, writeUnder1, writeUnder0};
 ghost use Rattle.lines.specs.Lines.{rows};
@@ -28,12 +29,25 @@ fn group_in(bytes: &[u8], i: usize, g: u32) -> u32
     block::group_at(bytes, Geometry::BLOCK_LEN * i + Geometry::byte_of(g))
 }
 
-// Line i's block is let go.
-fn let_go(lines: &mut [u32], i: usize)
-    requires { ⌜ i < length (now lines) ⌝ }
-    ensures { λ _. ⌜ now (lines .exit) ≡ letGo (now (lines .entry)) i ⌝ }
+// The line with no holder, and changed where `changed` says so.
+fn let_loose(w: u32, changed: bool) -> u32
+    ensures { λ r. ⌜ r ≡ pick changed (word (blockOf w) true 0) (heldBy w 0) ⌝ }
 {
-    lines[i] = line::held_by(lines[i], 0);
+    if changed {
+        line::word(line::block_of(w), true, 0)
+    } else {
+        line::held_by(w, 0)
+    }
+}
+
+// Line i's block is let go, and the line changed where `changed` says so; a line past the row is none.
+pub fn let_go(lines: &mut [u32], i: usize, changed: bool)
+    ensures { λ _. ⌜ now (lines .exit) ≡ letGo changed (now (lines .entry)) i ⌝ }
+{
+    if lines.len() <= i {
+        return;
+    }
+    lines[i] = let_loose(lines[i], changed);
 }
 
 // Probe. Leaf in a line: a read ends with the group; a write whose group equals v ends "same". Otherwise on to Map.
@@ -79,7 +93,7 @@ fn leaf_read(
         return turned::refuses(4, shape, t);
     }
     let v = group_in(bytes, i, g);
-    let_go(lines, j);
+    let_go(lines, j, false);
     turned::ends_read(spot.shape, t, v)
 }
 
@@ -103,7 +117,7 @@ fn put_in(
         return turned::goes(shape, t, Phase::Clear);
     }
     lines[i] = line::word(Geometry::leaf_of(g), true, 0);
-    let_go(lines, j);
+    let_go(lines, j, false);
     turned::ends_done(shape, t)
 }
 
@@ -127,7 +141,7 @@ fn write_under_1(
         return turned::refuses(4, shape, t);
     }
     if group_in(bytes, i, g) == t.value {
-        let_go(lines, j);
+        let_go(lines, j, false);
         return turned::ends_same(spot.shape, t);
     }
     put_in(j, i, spot.shape, t, lines, bytes)
@@ -166,7 +180,7 @@ fn write_under_0(
     ensures { λ r. ⌜ turned r (now (lines .exit)) (now (bytes .exit)) (now (memory .exit)) ≡ writeUnder0 shape j t (rows (now (lines .entry)) (now (bytes .entry)) (now (memory .entry))) ⌝ }
 {
     if t.value == 0 {
-        let_go(lines, j);
+        let_go(lines, j, false);
         return turned::ends_same(shape, t);
     }
     let l = shape.l;

@@ -31,15 +31,15 @@ module _ (s : State) (f : Whole s) (x m : ℕ) where
       record {
         who = holder (at (s .lines) i) - 1;
         who-lt = omega arith;
-        not-x = λ e. not-both-ways (heldOf-is (s .shape .n) (s .trackers) x m (ap (heldOf (s .shape .n) (s .trackers)) (sym e) ∙ r .1) .0) free;
-        holds-it = heldOf-holds (s .shape .n) (s .trackers) _ m (r .1);
+        not-x = λ e. not-both-ways (heldOf-is (s .shape .n) (s .trackers) x m (ap (heldOf (s .shape .n) (s .trackers)) (sym e) ∙ r .1 .is-held) .0) free;
+        holds-it = heldOf-holds (s .shape .n) (s .trackers) _ m (r .1 .is-held);
       }
 
   pub another-named : Another s x m → (lineOf (s .lines) (s .shape .l) m < s .shape .l) × (held (at (s .lines) (lineOf (s .lines) (s .shape .l) m)) ≡ true)
   unfolding holds
   another-named a =
       let e : heldOf (s .shape .n) (s .trackers) (a .who) ≡ suc m = heldOf-yes (s .shape .n) (s .trackers) (a .who) (both-left _ _ (a .holds-it)) ∙ ap suc (eqb-true _ _ (both-right _ _ (a .holds-it))) in
-      let h = f .lined .in-line (a .who) m (a .who-lt) e in
-      let i : lineOf (s .lines) (s .shape .l) m ≡ h .line = lineOf-is (f .lined) (h .line) m (h .has-it) in
+      let h = f .lined .in-line (a .who) 0 m (a .who-lt) (omega arith) e in
+      let i : lineOf (s .lines) (s .shape .l) m ≡ h .line = lineOf-is (f .lined .apart) (h .line) m (h .has-it) in
       let p : 0 < holder (at (s .lines) (h .line)) = omega (arith, h .is-holder) in
-      rw i (low (f .lined) (h .line) m (h .has-it), holder-held _ p)
+      rw i (low (f .lined .apart) (h .line) m (h .has-it), holder-held _ p)

@@ -42,12 +42,14 @@ module _ (n t l : ℕ) (lim : limits (shapeOf n t l) ≡ true) where
     limits-ok = lim;
     hand-lt = omega (arith, l-least (shapeOf n t l) lim);
     lined = record {
-      long = l-most (shapeOf n t l) lim;
-      above = λ i q. free-line i;
-      exists = λ i b h. absurd (none i b h);
-      one = λ i j b h h'. absurd (none i b h);
+      apart = record {
+        long = l-most (shapeOf n t l) lim;
+        above = λ i q. free-line i;
+        exists = λ i b h. absurd (none i b h);
+        one = λ i j b h h'. absurd (none i b h);
+      };
       named = λ i b h p. absurd (none i b h);
-      in-line = λ x m q e. absurd (let z = no-hold x in omega arith);
+      in-line = λ x k m q kl e. absurd (let z = no-hold x in omega arith);
     };
     tracked = record {
       long = t-most (shapeOf n t l) lim;

@@ -11,7 +11,7 @@ use native.Mathlib.Decide.{ℕ-discrete}
 use Rattle.tracker.proofs.Phases.{idle-loose}
 use Rattle.geometry.specs.declared.Shape.{Shape}
 use Rattle.geometry.specs.Shape.{atHand}
-use Rattle.geometry.specs.TagMemory.{groups, memoryLength, blocks}
+use Rattle.geometry.specs.TagMemory.{groups, memoryLength}
 use Rattle.laws.proofs.Choice.{true-or-false, both-left, both-right, both-true}
 use Rattle.laws.proofs.Splice.{lt-or-ge}
 use Rattle.laws.proofs.Scan.{all-at}
@@ -26,8 +26,8 @@ use Rattle.rules.specs.Place.{rowsFit, drained}
 use Rattle.rules.specs.Step.{Turned, fit, byPhase, turnOf}
 use Rattle.rules.specs.Calls.{Out, refused, accepted, withTracker, withLines, stateTests, meetsNone, issueTests, issueNo, issue, stepped, stepTests, stepNo, step, allIdle, drainTests, drainNo, drain}
 use Rattle.line.proofs.Words.{blockOf-cleaned, holder-cleaned, used-cleaned}
-use Rattle.rules.proofs.Lined.{at, Lined, loose-lined, same-holds}
-use Rattle.rules.proofs.Whole.{heldOf, heldOf-no, Whole, whole-facts, facts-whole, inLimits-of, limits-hand, t-most, l-least}
+use Rattle.rules.proofs.Lined.{at, loose-lined, same-holds}
+use Rattle.rules.proofs.Whole.{heldOf, heldLines, LinedBy, heldOf-no, Whole, whole-facts, facts-whole, inLimits-of, limits-hand, t-most, l-least}
 use Rattle.rules.proofs.Placed.{written-length, held-used}
 use Rattle.rules.proofs.Keeps.{isNo, Keeps, Situation, keeps-byPhase, tracked-set, heldOf-other, tracker-same}
 use Rattle.rules.proofs.Ways.{turn-is}
@@ -69,7 +69,7 @@ module _ (s : State) (bytes memory : List ℕ) (w : whole s ≡ true) (len : len
 
   pub rows-fit : rowsFit (s .shape .l) (s .lines) bytes ≡ true
   unfolding rowsFit
-  rows-fit = both-true _ _ (le-leb _ _ (f .lined .long)) (eq-eqb _ _ (bytes-right (s .shape) bytes memory len))
+  rows-fit = both-true _ _ (le-leb _ _ (f .lined .apart .long)) (eq-eqb _ _ (bytes-right (s .shape) bytes memory len))
 
   -- past 4 and 2 a call's refusal is that of its own tests
   issueNo-is : (x : ℕ) (a : Access) → issueNo s bytes memory x a ≡ refusal (issueTests (s .shape) x a (s .trackers))
@@ -107,7 +107,7 @@ module _ (s : State) (bytes memory : List ℕ) (w : whole s ≡ true) (len : len
       unfolding fit
       turn-fit =
           let x1 : x < holders = omega (arith, t-most (s .shape) (f .limits-ok)) in
-          both-true _ _ (both-true _ _ (inLimits-of (s .shape) (f .limits-ok)) (le-leb _ _ (f .lined .long)))
+          both-true _ _ (both-true _ _ (inLimits-of (s .shape) (f .limits-ok)) (le-leb _ _ (f .lined .apart .long)))
           (both-true _ _ (lt-ltb _ _ (f .tracked .group-lt x busy)) (lt-ltb _ _ x1))
 
       -- the core's step is the rule of the tracker's phase
@@ -182,8 +182,8 @@ module _ (s : State) (bytes memory : List ℕ) (w : whole s ≡ true) (len : len
       xlong : x < length (s .trackers)
       xlong = omega (arith, f .tracked .long, issue-free .0)
 
-      issue-lined : Lined (blocks (s .shape .n)) (s .shape .l) (s .shape .t) (heldOf (s .shape .n) (set (s .trackers) x (issued a))) (s .lines)
-      issue-lined = same-holds (f .lined) (λ y. by y (ℕ-discrete y x))
+      issue-lined : LinedBy (s .shape) (set (s .trackers) x (issued a)) (s .lines)
+      issue-lined = same-holds (f .lined) (λ y k. by y (ℕ-discrete y x))
         where
           by : (y : ℕ) → Dec (y ≡ x) → heldOf (s .shape .n) (set (s .trackers) x (issued a)) y ≡ heldOf (s .shape .n) (s .trackers) y
           by y (yes q) = rw q (heldOf-no (s .shape .n) _ x (rw (tracker-same (s .trackers) x (issued a) xlong) (first-free (a .bottom)))
@@ -206,7 +206,7 @@ module _ (s : State) (bytes memory : List ℕ) (w : whole s ≡ true) (len : len
     issue-kept = ⊎-elim (λ e. rw (issue-accepted e) (issue-sound e)) (λ h. rw (issue-refused h) (refused-sound _))
         (refused-or-not (refusal (issueTests (s .shape) x a (s .trackers))))
 
-  few : s .shape .t < s .shape .l
+  few : s .shape .t * heldLines < s .shape .l
   few = omega (arith, l-least (s .shape) (f .limits-ok))
 
   fit-of : (lines : List ℕ) → s .shape .l ≤ length lines → rowsFit (s .shape .l) lines bytes ≡ true
@@ -221,16 +221,16 @@ module _ (s : State) (bytes memory : List ℕ) (w : whole s ≡ true) (len : len
         (⊎-elim (λ q. all-at (λ y. isIdle (trackerAt (s .trackers) y)) (s .shape .t) idle-all x q) (λ q. f .tracked .above x q) (lt-or-ge x (s .shape .t))))
 
     -- nobody holds a line
-    no-holder : {lines : List ℕ} → Lined (blocks (s .shape .n)) (s .shape .l) (s .shape .t) (heldOf (s .shape .n) (s .trackers)) lines → (i : ℕ) → holder (at lines i) ≡ 0
+    no-holder : {lines : List ℕ} → LinedBy (s .shape) (s .trackers) lines → (i : ℕ) → holder (at lines i) ≡ 0
     no-holder {lines} v i = go (ℕ-discrete (holder (at lines i)) 0)
       where
         go : Dec (holder (at lines i) ≡ 0) → holder (at lines i) ≡ 0
         go (yes e) = e
         go (no e) = absurd (let r = v .named i (blockOf (at lines i)) (record { is-used = held-used (at lines i) (omega arith); is-block = refl }) (omega arith) in
-            let z = none-held (holder (at lines i) - 1) in let y = r .1 in omega arith)
+            let z = none-held (holder (at lines i) - 1) in let y = r .1 .is-held in omega arith)
 
     pub record Drains (d : Rows) : Type 0 where
-      pub lined : Lined (blocks (s .shape .n)) (s .shape .l) (s .shape .t) (heldOf (s .shape .n) (s .trackers)) (d .lines)
+      pub lined : LinedBy (s .shape) (s .trackers) (d .lines)
       pub bytes-is : d .bytes ≡ bytes
       pub lines-long : length (d .lines) ≡ length (s .lines)
       pub memory-long : length (d .memory) ≡ length memory
@@ -242,11 +242,11 @@ module _ (s : State) (bytes memory : List ℕ) (w : whole s ≡ true) (len : len
         let d : Drains (drained i rows) = drains i (omega arith) in
         let c = at (drained i rows .lines) i in
         let bl : blockOf (cleaned c) ≡ blockOf c = blockOf-cleaned c in
-        let fits : rowsFit (s .shape .l) (drained i rows .lines) (drained i rows .bytes) ≡ true = subst (λ (y : List ℕ). rowsFit (s .shape .l) (drained i rows .lines) y ≡ true) (sym (d .bytes-is)) (fit-of (drained i rows .lines) (d .lined .long)) in
+        let fits : rowsFit (s .shape .l) (drained i rows .lines) (drained i rows .bytes) ≡ true = subst (λ (y : List ℕ). rowsFit (s .shape .l) (drained i rows .lines) y ≡ true) (sym (d .bytes-is)) (fit-of (drained i rows .lines) (d .lined .apart .long)) in
         record {
           lined = loose-lined (d .lined) i (cleaned c) (omega arith) (no-holder (d .lined) i) (holder-cleaned c ∙ no-holder (d .lined) i)
-              (λ u. rw bl (d .lined .exists i (blockOf c) (record { is-used = sym (used-cleaned c) ∙ u; is-block = refl })))
-              (λ u j n h. n (d .lined .one j i (blockOf c) (rw bl at h) (record { is-used = sym (used-cleaned c) ∙ u; is-block = refl })));
+              (λ u. rw bl (d .lined .apart .exists i (blockOf c) (record { is-used = sym (used-cleaned c) ∙ u; is-block = refl })))
+              (λ u j n h. n (d .lined .apart .one j i (blockOf c) (rw bl at h) (record { is-used = sym (used-cleaned c) ∙ u; is-block = refl })));
           bytes-is = d .bytes-is;
           lines-long = simp length-set (d .lines-long);
           memory-long = written-length (s .shape) (drained i rows) (d .lined) few fits i (omega arith) ∙ d .memory-long;

@@ -26,7 +26,8 @@ use Rattle.tracker.specs.declared.Phase.the-variants.{Idle, Probe, Map, Leaf, S
 use Rattle.tracker.specs.declared.Tracker.{Tracker}
 use Rattle.tracker.specs.Tracker.{idle, isIdle, isIdleAt, holdsAt, goesTo, counted}
 use Rattle.tracker.specs.Answer.{Said, ok, wait, moved, read, done, same, no as refusal}
-use Rattle.line.specs.Word.{used, blockOf, holder, held, heldBy, word, lineBlocks, marks}
+use Rattle.line.specs.Word.{used, blockOf, holder, held, word, lineBlocks, marks}
+use Rattle.line.specs.Word as Word
 use Rattle.line.specs.Find.{lineOf}
 use Rattle.rules.specs.State.{Rows, trackerAt}
 use Rattle.rules.specs.Whole.{limits, mapBlock, phaseWhole}
@@ -35,9 +36,9 @@ use Rattle.rules.specs.Step.{Turned, ends, goes, waits, bitIn, groupIn, 
 use Rattle.line.proofs.Words.{blockOf-word, free-used, holder-word, used-word}
 use Rattle.rules.proofs.Words.{blockOf-heldBy, holder-free, holder-heldBy, loose-holder, used-heldBy}
 use Rattle.rules.proofs.Lined.{at, Has, Held, Lined, low, lineOf-is, lineOf-has, lineOf-none, loose-lined, held-lined, let-go-lined, same-holds}
-use Rattle.rules.proofs.Whole.{heldOf, heldOf-yes, heldOf-no, heldOf-is, Tracked, n-most, t-most, l-least}
+use Rattle.rules.proofs.Whole.{heldOf, heldBy, heldLines, LinedBy, heldOf-yes, heldOf-no, heldOf-is, Tracked, n-most, t-most, l-least}
 use Rattle.rules.proofs.Placed.{Shaped, unmoved, moved-to, Brings, brings, place-loose, place-hand, place-memory-length, fill-lined, fill-keeps}
-use Rattle.rules.proofs.Ways.{probe-miss, probe-read, probe-same, probe-other, map-read, map-same, map-create, map-hold, map-wait, map-on, leafRead-is, write1-same, write1-put, write0-same, write0-line, write0-place, leafWrite-0, leafWrite-1, bytesWith, putIn-empty, putIn-done, inLine-is}
+use Rattle.rules.proofs.Ways.{probe-miss, probe-read, probe-same, probe-other, map-read, map-same, map-create, map-hold, map-wait, map-on, leafRead-is, write1-same, write1-put, write0-same, write0-line, write0-place, leafWrite-0, leafWrite-1, bytesWith, putIn-empty, putIn-done, finish-is, inLine-is}
 
 -- it is a refusal
 abbrev pub isNo : Said → Bool
@@ -53,7 +54,7 @@ isNo (refusal c) = true
 pub record Keeps (shape : Shape) (x : ℕ) (ts : List Tracker) (r : Rows) (o : Turned) : Type 0 where
   pub says : isNo (o .said) ≡ false
   pub shaped : Shaped shape (o .shape)
-  pub lined : Lined (blocks (shape .n)) (shape .l) (shape .t) (heldOf (shape .n) (set ts x (o .tracker))) (o .rows .lines)
+  pub lined : LinedBy shape (set ts x (o .tracker)) (o .rows .lines)
   pub tracked : Tracked (shape .n) (shape .t) (set ts x (o .tracker))
   pub lines-long : length (o .rows .lines) ≡ length (r .lines)
   pub bytes-long : length (o .rows .bytes) ≡ length (r .bytes)
@@ -114,12 +115,12 @@ module _ (shape : Shape) (lim : limits shape ≡ true) where
   map-block g q = omega (arith, mapBlockOf-lt (shape .n) (leafOf g) (leafOf-lt (shape .n) g q))
 
 -- a line that has a leaf is held by nobody: map blocks come after the leaves
-pub leaf-loose : {B l t : ℕ} (n : ℕ) (ts : List Tracker) {lines : List ℕ} → Lined B l t (heldOf n ts) lines → (i b : ℕ) → Has lines i b → b < n → holder (at lines i) ≡ 0
+pub leaf-loose : {B l t : ℕ} (n : ℕ) (ts : List Tracker) {lines : List ℕ} → Lined B l t heldLines (heldBy n ts) lines → (i b : ℕ) → Has lines i b → b < n → holder (at lines i) ≡ 0
 leaf-loose n ts {lines} v i b h q = go (ℕ-discrete (holder (at lines i)) 0)
   where
     go : Dec (holder (at lines i) ≡ 0) → holder (at lines i) ≡ 0
     go (yes e) = e
-    go (no e) = absurd (let r = v .named i b h (omega arith) in let m = heldOf-is n ts _ b (r .1) in let z = m .1 in omega arith)
+    go (no e) = absurd (let r = v .named i b h (omega arith) in let m = heldOf-is n ts _ b (r .1 .is-held) in let z = m .1 in omega arith)
 
 -- what a step finds, whole: the shape, in its limits and its hand at a line, the trackers, the rows; and the busy tracker that steps, x, which is u
 pub record Situation : Type 0 where
@@ -129,7 +130,7 @@ pub record Situation : Type 0 where
   pub r : Rows
   pub u : Tracker
   pub limits-ok : limits shape ≡ true
-  pub lined : Lined (blocks (shape .n)) (shape .l) (shape .t) (heldOf (shape .n) ts) (r .lines)
+  pub lined : LinedBy shape ts (r .lines)
   pub tracked : Tracked (shape .n) (shape .t) ts
   pub x-lt : x < shape .t
   pub hand-lt : shape .hand < shape .l
@@ -174,7 +175,7 @@ module _ (sit : Situation) where
   leaf-of-lt : leafOf (u .group) < n
   leaf-of-lt = leaf-lt shape (sit .limits-ok) (u .group) group-ok
 
-  few : t < l
+  few : t * heldLines < l
   few = omega (arith, l-least shape (sit .limits-ok))
 
   -- what is held by x before and after
@@ -199,39 +200,39 @@ module _ (sit : Situation) where
       go (no q) = heldOf-other n ts x y u' q
 
   -- a tracker that holds nothing before and after
-  quiet : {ls : List ℕ} → holdsAt (u .phase) ≡ false → (u' : Tracker) → holdsAt (u' .phase) ≡ false → Lined (blocks n) l t (heldOf n ts) ls → Lined (blocks n) l t (heldOf n (set ts x u')) ls
-  quiet h u' h' w = same-holds w (by-case u' (now-free u' h' ∙ sym (was-free h)))
+  quiet : {ls : List ℕ} → holdsAt (u .phase) ≡ false → (u' : Tracker) → holdsAt (u' .phase) ≡ false → LinedBy shape ts ls → LinedBy shape (set ts x u') ls
+  quiet h u' h' w = same-holds w (λ y k. by-case u' (now-free u' h' ∙ sym (was-free h)) y)
 
   -- a tracker that holds before and after
-  stays : {ls : List ℕ} → holdsAt (u .phase) ≡ true → (u' : Tracker) → holdsAt (u' .phase) ≡ true → u' .group ≡ u .group → Lined (blocks n) l t (heldOf n ts) ls → Lined (blocks n) l t (heldOf n (set ts x u')) ls
-  stays h u' h' e w = same-holds w (by-case u' (now-held u' h' ∙ ap (λ (g : ℕ). suc (mapBlock n g)) e ∙ sym (was-held h)))
+  stays : {ls : List ℕ} → holdsAt (u .phase) ≡ true → (u' : Tracker) → holdsAt (u' .phase) ≡ true → u' .group ≡ u .group → LinedBy shape ts ls → LinedBy shape (set ts x u') ls
+  stays h u' h' e w = same-holds w (λ y k. by-case u' (now-held u' h' ∙ ap (λ (g : ℕ). suc (mapBlock n g)) e ∙ sym (was-held h)) y)
 
   small : blocks n < lineBlocks
   small = blocks-small shape (sit .limits-ok)
 
   -- a tracker comes to hold its map block, which is in line i
-  comes-to-hold : {ls : List ℕ} (i : ℕ) → Lined (blocks n) l t (heldOf n ts) ls → Has ls i (mapBlock n (u .group)) → holder (at ls i) ≡ 0 → holdsAt (u .phase) ≡ false
-      → Lined (blocks n) l t (heldOf n (set ts x (goesTo u Leaf))) (held-by ls i x)
+  comes-to-hold : {ls : List ℕ} (i : ℕ) → LinedBy shape ts ls → Has ls i (mapBlock n (u .group)) → holder (at ls i) ≡ 0 → holdsAt (u .phase) ≡ false
+      → LinedBy shape (set ts x (goesTo u Leaf)) (held-by ls i x)
   comes-to-hold {ls} i w h z f =
-      let bl : blockOf (at ls i) < lineBlocks = rw (h .is-block) (omega (arith, small, w .exists i _ h)) in
+      let bl : blockOf (at ls i) < lineBlocks = rw (h .is-block) (omega (arith, small, w .apart .exists i _ h)) in
       let x1 : x + 1 < marks = omega (arith, t-most shape (sit .limits-ok)) in
-      held-lined w i (heldBy (at ls i) (x + 1)) (low w i _ h) (heldOf n (set ts x (goesTo u Leaf))) x (sit .x-lt) (λ y q. heldOf-other n ts x y (goesTo u Leaf) q)
+      held-lined w i (Word.heldBy (at ls i) (x + 1)) (low (w .apart) i _ h) (heldBy n (set ts x (goesTo u Leaf))) x 0 (sit .x-lt) (omega arith) (λ y k kl q. heldOf-other n ts x y (goesTo u Leaf) (λ e. q e (omega arith)))
       (mapBlock n (u .group)) h (used-heldBy (at ls i) (x + 1) bl x1) (blockOf-heldBy (at ls i) (x + 1) bl x1 ∙ h .is-block) z (holder-heldBy (at ls i) (x + 1) bl x1)
       (was-free f) (now-held (goesTo u Leaf) refl)
 
   -- a tracker lets go of its map block, which is in line j, and ends
-  lets-go : {ls : List ℕ} (j w' : ℕ) → Lined (blocks n) l t (heldOf n ts) ls → Has ls j (mapBlock n (u .group)) → holder (at ls j) ≡ x + 1
+  lets-go : {ls : List ℕ} (j w' : ℕ) → LinedBy shape ts ls → Has ls j (mapBlock n (u .group)) → holder (at ls j) ≡ x + 1
       → used w' ≡ true → blockOf w' ≡ mapBlock n (u .group) → holder w' ≡ 0
-      → Lined (blocks n) l t (heldOf n (set ts x idle)) (set ls j w')
+      → LinedBy shape (set ts x idle) (set ls j w')
   lets-go {ls} j w' w h z a b c =
-      let-go-lined w j w' (low w j _ h) (heldOf n (set ts x idle)) x (sit .x-lt) (λ y q. heldOf-other n ts x y idle q)
-      (mapBlock n (u .group)) h a b z c (now-free idle refl)
+      let-go-lined w j w' (low (w .apart) j _ h) (heldBy n (set ts x idle)) x 0 (sit .x-lt) (omega arith) (λ y k kl q. heldOf-other n ts x y idle (λ e. q e (omega arith)))
+      (mapBlock n (u .group)) h a b z c (λ k kl e. omega arith) (now-free idle refl)
 
-  lets-go-word : {ls : List ℕ} (j : ℕ) → Lined (blocks n) l t (heldOf n ts) ls → Has ls j (mapBlock n (u .group)) → holder (at ls j) ≡ x + 1
-      → Lined (blocks n) l t (heldOf n (set ts x idle)) (letGo ls j)
+  lets-go-word : {ls : List ℕ} (j : ℕ) → LinedBy shape ts ls → Has ls j (mapBlock n (u .group)) → holder (at ls j) ≡ x + 1
+      → LinedBy shape (set ts x idle) (letGo false ls j)
   lets-go-word {ls} j w h z =
-      let bl : blockOf (at ls j) < lineBlocks = rw (h .is-block) (omega (arith, small, w .exists j _ h)) in
-      lets-go j (heldBy (at ls j) 0) w h z (used-heldBy (at ls j) 0 bl (omega arith)) (blockOf-heldBy (at ls j) 0 bl (omega arith) ∙ h .is-block) (holder-heldBy (at ls j) 0 bl (omega arith))
+      let bl : blockOf (at ls j) < lineBlocks = rw (h .is-block) (omega (arith, small, w .apart .exists j _ h)) in
+      lets-go j (Word.heldBy (at ls j) 0) w h z (used-heldBy (at ls j) 0 bl (omega arith)) (blockOf-heldBy (at ls j) 0 bl (omega arith) ∙ h .is-block) (holder-heldBy (at ls j) 0 bl (omega arith))
 
   idle-tracked : Tracked n t (set ts x idle)
   idle-tracked = tracked-set n t ts x idle (sit .tracked) (sit .x-lt) (λ e. absurd (not-both-ways refl e)) refl
@@ -262,13 +263,13 @@ module _ (sit : Situation) where
           eqs (no d) = rw (probe-other shape u r q w d) (to-map h)
 
   -- the map block is brought in, held by nobody
-  map-brings : Brings shape (blocks n) (heldOf n ts) r (mapBlock n (u .group)) (bringIn shape (mapBlock n (u .group)) r)
+  map-brings : Brings shape (blocks n) heldLines (heldBy n ts) r (mapBlock n (u .group)) (bringIn shape (mapBlock n (u .group)) r)
   map-brings = brings shape r (mapBlock n (u .group)) (sit .lined) few (sit .rows-fit) (sit .hand-lt) (map-block shape (sit .limits-ok) (u .group) group-ok) small
 
-  leaf-brings : Brings shape (blocks n) (heldOf n ts) r (leafOf (u .group)) (bringIn shape (leafOf (u .group)) r)
+  leaf-brings : Brings shape (blocks n) heldLines (heldBy n ts) r (leafOf (u .group)) (bringIn shape (leafOf (u .group)) r)
   leaf-brings = brings shape r (leafOf (u .group)) (sit .lined) few (sit .rows-fit) (sit .hand-lt) (leaf-block shape (sit .limits-ok) (u .group) group-ok) small
 
-  module _ (m : u .phase ≡ Map) (b : Brought) (f : Brings shape (blocks n) (heldOf n ts) r (mapBlock n (u .group)) b) (z : holder (at (b .rows .lines) (b .line)) ≡ 0) where
+  module _ (m : u .phase ≡ Map) (b : Brought) (f : Brings shape (blocks n) heldLines (heldBy n ts) r (mapBlock n (u .group)) b) (z : holder (at (b .rows .lines) (b .line)) ≡ 0) where
     map-free : holdsAt (u .phase) ≡ false
     map-free = rw m
 
@@ -321,13 +322,13 @@ module _ (sit : Situation) where
   -- from here on the tracker holds its map block, which is in line j
   module _ (h : holdsAt (u .phase) ≡ true) where
     pub in-j : Held (r .lines) x (mapBlock n (u .group))
-    in-j = sit .lined .in-line x (mapBlock n (u .group)) (sit .x-lt) (was-held h)
+    in-j = sit .lined .in-line x 0 (mapBlock n (u .group)) (sit .x-lt) (omega arith) (was-held h)
 
     pub j-is : lineOf (r .lines) l (mapBlock n (u .group)) ≡ in-j .line
-    j-is = lineOf-is (sit .lined) (in-j .line) (mapBlock n (u .group)) (in-j .has-it)
+    j-is = lineOf-is (sit .lined .apart) (in-j .line) (mapBlock n (u .group)) (in-j .has-it)
 
     pub j-lt : lineOf (r .lines) l (mapBlock n (u .group)) < l
-    j-lt = rw j-is (low (sit .lined) (in-j .line) (mapBlock n (u .group)) (in-j .has-it))
+    j-lt = rw j-is (low (sit .lined .apart) (in-j .line) (mapBlock n (u .group)) (in-j .has-it))
 
     pub j-has : Has (r .lines) (lineOf (r .lines) l (mapBlock n (u .group))) (mapBlock n (u .group))
     j-has = rw j-is (in-j .has-it)
@@ -339,14 +340,14 @@ module _ (sit : Situation) where
     j = lineOf (r .lines) l (mapBlock n (u .group))
 
     -- a row in which line j still is as it was
-    module _ {ls : List ℕ} (w : Lined (blocks n) l t (heldOf n ts) ls) (e : at ls j ≡ at (r .lines) j) where
+    module _ {ls : List ℕ} (w : LinedBy shape ts ls) (e : at ls j ≡ at (r .lines) j) where
       still-has : Has ls j (mapBlock n (u .group))
       still-has = record { is-used = ap used e ∙ j-has .is-used; is-block = ap blockOf e ∙ j-has .is-block }
 
       still-held : holder (at ls j) ≡ x + 1
       still-held = ap holder e ∙ j-holder
 
-      gone : Lined (blocks n) l t (heldOf n (set ts x idle)) (letGo ls j)
+      gone : LinedBy shape (set ts x idle) (letGo false ls j)
       gone = lets-go-word j w still-has still-held
 
     j-held : 0 < holder (at (r .lines) j)
@@ -356,7 +357,7 @@ module _ (sit : Situation) where
     leaf-line-loose = leaf-loose n ts (leaf-brings .lined) _ _ (leaf-brings .has-it) leaf-of-lt
 
     -- after the leaf was brought in: ends and lets go
-    leaf-ends : (a : Said) → isNo a ≡ false → Keeps shape x ts r (let b = bringIn shape (leafOf (u .group)) r in ends a (b .shape) (withLines (b .rows) (letGo (b .rows .lines) j)))
+    leaf-ends : (a : Said) → isNo a ≡ false → Keeps shape x ts r (let b = bringIn shape (leafOf (u .group)) r in ends a (b .shape) (withLines (b .rows) (letGo false (b .rows .lines) j)))
     leaf-ends a s = record {
       says = s;
       shaped = leaf-brings .shaped;
@@ -392,12 +393,12 @@ module _ (sit : Situation) where
           bl = leaf-block shape (sit .limits-ok) (u .group) group-ok
 
           alone : (i : ℕ) → (i ≡ b .line → ⊥) → Has (b .rows .lines) i (leafOf (u .group)) → ⊥
-          alone i q e = q (leaf-brings .lined .one i (b .line) (leafOf (u .group)) e (leaf-brings .has-it))
+          alone i q e = q (leaf-brings .lined .apart .one i (b .line) (leafOf (u .group)) e (leaf-brings .has-it))
 
-          freed : Lined (blocks n) l t (heldOf n ts) (set (b .rows .lines) (b .line) 0)
+          freed : LinedBy shape ts (set (b .rows .lines) (b .line) 0)
           freed = loose-lined (leaf-brings .lined) (b .line) 0 (leaf-brings .line-lt) leaf-line-loose holder-free (λ e. absurd (not-both-ways e free-used)) (λ e. absurd (not-both-ways e free-used))
 
-          changed-line : Lined (blocks n) l t (heldOf n ts) (set (b .rows .lines) (b .line) (word (leafOf (u .group)) true 0))
+          changed-line : LinedBy shape ts (set (b .rows .lines) (b .line) (word (leafOf (u .group)) true 0))
           changed-line = fill-lined (leaf-brings .lined) (b .line) (leafOf (u .group)) (leaf-brings .line-lt) leaf-line-loose bl small alone true
 
           still : at (set (b .rows .lines) (b .line) (word (leafOf (u .group)) true 0)) j ≡ at (r .lines) j
@@ -460,7 +461,7 @@ module _ (sit : Situation) where
                 says = refl;
                 shaped = unmoved (sit .hand-lt);
                 lined = stays h (goesTo u Set) refl refl (fill-lined (sit .lined) i (leafOf (u .group)) q (leaf-loose n ts (sit .lined) i (leafOf (u .group)) hi leaf-of-lt) bl small
-                    (λ y d f. d (sit .lined .one y i (leafOf (u .group)) f hi)) true);
+                    (λ y d f. d (sit .lined .apart .one y i (leafOf (u .group)) f hi)) true);
                 tracked = goes-tracked Set (same-map wr Set refl);
                 lines-long = simp length-set;
                 bytes-long = length-putW 64 (r .bytes) (64 * i) (newLeaf u) new-long;
@@ -472,7 +473,7 @@ module _ (sit : Situation) where
                 says = refl;
                 shaped = moved-to (place-hand shape r (sit .lined) few (sit .rows-fit) (sit .hand-lt));
                 lined = stays h (goesTo u Set) refl refl (fill-lined (sit .lined) (placeLine shape (r .lines) (r .bytes)) (leafOf (u .group)) (p .0) (p .1) bl small
-                    (λ y d f. lineOf-none (r .lines) l (leafOf (u .group)) y q (low (sit .lined) y (leafOf (u .group)) f) f) true);
+                    (λ y d f. lineOf-none (r .lines) l (leafOf (u .group)) y q (low (sit .lined .apart) y (leafOf (u .group)) f) f) true);
                 tracked = goes-tracked Set (same-map wr Set refl);
                 lines-long = simp length-set;
                 bytes-long = length-putW 64 (r .bytes) (64 * placeLine shape (r .lines) (r .bytes)) (newLeaf u) new-long;
@@ -487,11 +488,10 @@ module _ (sit : Situation) where
           go (no e) = rw (leafWrite-1 shape j u r e) keeps-write1
 
     keeps-finish : (bit : ℕ) → Keeps shape x ts r (finish shape j bit u r)
-    unfolding finish
     keeps-finish bit =
         let m = mapBlock n (u .group) in
-        let ml : m < lineBlocks = omega (arith, small, sit .lined .exists j m j-has) in
-        record {
+        let ml : m < lineBlocks = omega (arith, small, sit .lined .apart .exists j m j-has) in
+        rw (finish-is shape j bit u r (j-has .is-block)) (record {
           says = refl;
           shaped = unmoved (sit .hand-lt);
           lined = lets-go j (word m true 0) (sit .lined) j-has j-holder (used-word m true 0 ml (omega arith)) (blockOf-word m true 0 ml (omega arith)) (holder-word m true 0 ml (omega arith));
@@ -499,7 +499,7 @@ module _ (sit : Situation) where
           lines-long = simp length-set;
           bytes-long = putBit-length (r .bytes) _ _ bit;
           memory-long = refl;
-        }
+        })
 
     keeps-leaf : Keeps shape x ts r (holding shape j u r Leaf)
     keeps-leaf = go (true-or-false (u .write))

@@ -3,7 +3,7 @@ use mathlib.Core.Path.{_≡_, refl, sym, ap, _∙_}
 use mathlib.Core.Bool.{Bool, true, false}
 use mathlib.Core.List.{List}
 use mathlib.Core.Logic.{_⊎_, inl, inr, ⊎-elim}
-use Prim.Native.Nat.{ℕ, suc, _+_, _-_, _*_, _<_, _≤_}
+use Prim.Native.Nat.{ℕ, suc, _+_, _-_, _*_, _/_, _%_, _<_, _≤_}
 use native.Mathlib.Omega.{arith}
 use lib.Dec.{leb}
 use lib.ListN.{length, getD, set, length-set, length-replicate}
@@ -15,6 +15,7 @@ use Rattle.laws.proofs.Splice.{lt-or-ge}
 use Rattle.laws.proofs.Scan.{first-holds, first-before}
 use Rattle.laws.proofs.Put.{length-part, length-putW}
 use Rattle.laws.proofs.Pigeon.{pigeon}
+use lib.Arith.{digits-lt, digits-div, digits-mod}
 use Rattle.geometry.specs.declared.Shape.{Shape}
 use Rattle.geometry.specs.Shape.{atHand}
 use Rattle.geometry.specs.TagMemory.{blockPlace}
@@ -25,7 +26,7 @@ use Rattle.rules.specs.State.{Rows}
 use Rattle.rules.specs.Place.{lineBytes, rowsFit, placeLine, placeHand, writtenBack, placeMemory, Brought, filled, withMemory, bringIn}
 use Rattle.line.proofs.Words.{blockOf-word, holder-word, not-used, used-word}
 use Rattle.rules.proofs.Words.{held-holder, holder-free, loose-holder}
-use Rattle.rules.proofs.Lined.{at, Has, Lined, low, lineOf-has, lineOf-none, loose-lined, has-here, at-other, holder-here}
+use Rattle.rules.proofs.Lined.{at, Has, Holding, Lined, low, lineOf-has, lineOf-none, loose-lined, has-here, at-other, holder-here}
 
 pub held-used : (w : ℕ) → 0 < holder w → used w ≡ true
 held-used w p = ⊎-elim (λ u. u) (λ u. absurd (let z : holder w ≡ 0 = ap holder (not-used w u) ∙ holder-free in omega arith)) (true-or-false (used w))
@@ -53,26 +54,55 @@ victim-far : (lines : List ℕ) (l hand : ℕ) → l ≤ looseFrom lines l hand 
 unfolding victim
 victim-far lines l hand q = rw (le-ltb _ _ q)
 
-module _ {B l t : ℕ} {H : ℕ → ℕ} {lines : List ℕ} (v : Lined B l t H lines) (few : t < l) where
-  -- each held line has a holder of its own, so not all are held
+-- a pair of a number and a digit, as one number
+pair-one : {x y h k j : ℕ} → k < h → j < h → x * h + k ≡ y * h + j → (x ≡ y) × (k ≡ j)
+pair-one {x} {y} {h} {k} {j} p q e =
+    (sym (digits-div x p) ∙ ap (λ (z : ℕ). z / h) e ∙ digits-div y q, sym (digits-mod x p) ∙ ap (λ (z : ℕ). z % h) e ∙ digits-mod y q)
+
+module _ {B l t h : ℕ} {H : ℕ → ℕ → ℕ} {lines : List ℕ} (v : Lined B l t h H lines) (few : t * h < l) where
+  line-has : (i : ℕ) → 0 < holder (at lines i) → Has lines i (blockOf (at lines i))
+  line-has i p = record { is-used = held-used _ p; is-block = refl }
+
+  -- the block that line i's holder has in it
+  holding : (p : (i : ℕ) → i < l → 0 < holder (at lines i)) (i : ℕ) (il : i < l) → Holding h H (holder (at lines i) - 1) (blockOf (at lines i))
+  holding p i il = v .named i _ (line-has i (p i il)) (p i il) .1
+
+  who-lt : (p : (i : ℕ) → i < l → 0 < holder (at lines i)) (i : ℕ) → i < l → holder (at lines i) - 1 < t
+  who-lt p i il = let y = v .named i _ (line-has i (p i il)) (p i il) .0 in let z = p i il in omega arith
+
+  module _ (p : (i : ℕ) → i < l → 0 < holder (at lines i)) where
+    -- line i's holder, and which of its blocks the line has, as one number
+    number : (i : ℕ) → (i < l) ⊎ (l ≤ i) → ℕ
+    number i (inl il) = (holder (at lines i) - 1) * h + holding p i il .which
+    number i (inr q) = 0
+
+    number-lt : (i : ℕ) (d : (i < l) ⊎ (l ≤ i)) → i < l → number i d < t * h
+    unfolding number
+    number-lt i (inl il) q = digits-lt (who-lt p i il) (holding p i il .which-lt)
+    number-lt i (inr n) q = absurd (omega arith)
+
+    number-one : (i j : ℕ) (d : (i < l) ⊎ (l ≤ i)) (d' : (j < l) ⊎ (l ≤ j)) → i < l → j < l → number i d ≡ number j d' → i ≡ j
+    unfolding number
+    number-one i j (inr n) d' q q' e = absurd (omega arith)
+    number-one i j (inl il) (inr n) q q' e = absurd (omega arith)
+    number-one i j (inl il) (inl jl) q q' e =
+        let o = holding p i il in
+        let o' = holding p j jl in
+        let d = pair-one (o .which-lt) (o' .which-lt) e in
+        let y : suc (blockOf (at lines i)) ≡ suc (blockOf (at lines j)) =
+        sym (o .is-held) ∙ ap (λ (z : ℕ). H z (o .which)) (d .0) ∙ ap (H (holder (at lines j) - 1)) (d .1) ∙ o' .is-held in
+        let b : blockOf (at lines i) ≡ blockOf (at lines j) = omega arith in
+        v .apart .one i j _ (line-has i (p i il)) (record { is-used = held-used _ (p j jl); is-block = sym b })
+
+  -- each held line has a number of its own, of t * h, so not all are held
   some-loose : looseFrom lines l 0 < l
   some-loose = ⊎-elim (λ q. q) (λ q. absurd (crowd q)) (lt-or-ge (looseFrom lines l 0) l)
     where
-      line-has : (i : ℕ) → 0 < holder (at lines i) → Has lines i (blockOf (at lines i))
-      line-has i p = record { is-used = held-used _ p; is-block = refl }
-
       crowd : l ≤ looseFrom lines l 0 → ⊥
       crowd q =
-          let r : l ≤ t = pigeon t l (λ i. holder (at lines i) - 1)
-          (λ i il. let p = all-held lines l q i il in let r = v .named i _ (line-has i p) p in let z = r .0 in omega arith)
-          (λ i j il jl e.
-          let p = all-held lines l q i il in
-          let p' = all-held lines l q j jl in
-          let r = v .named i _ (line-has i p) p in
-          let r' = v .named j _ (line-has j p') p' in
-          let y : suc (blockOf (at lines i)) ≡ suc (blockOf (at lines j)) = sym (r .1) ∙ ap H e ∙ r' .1 in
-          let b : blockOf (at lines i) ≡ blockOf (at lines j) = omega arith in
-          v .one i j _ (line-has i p) (record { is-used = held-used _ p'; is-block = sym b })) in
+          let p = all-held lines l q in
+          let r : l ≤ t * h = pigeon (t * h) l (λ i. number p i (lt-or-ge i l)) (λ i il. number-lt p i (lt-or-ge i l) il)
+          (λ i j il jl e. number-one p i j (lt-or-ge i l) (lt-or-ge j l) il jl e) in
           omega arith
 
   -- "the first line at or after the hand, round the circle, that no tracker holds": there is one
@@ -105,7 +135,7 @@ module _ (shape : Shape) (lines bytes : List ℕ) (fit : rowsFit (shape .l) line
   unfolding placeHand both
   hand-victim q p = rw (fit, le-leb _ _ q, lt-ltb _ _ p)
 
-module _ (shape : Shape) {B : ℕ} {H : ℕ → ℕ} (r : Rows) (v : Lined B (shape .l) (shape .t) H (r .lines)) (few : shape .t < shape .l) (fit : rowsFit (shape .l) (r .lines) (r .bytes) ≡ true) where
+module _ (shape : Shape) {B h : ℕ} {H : ℕ → ℕ → ℕ} (r : Rows) (v : Lined B (shape .l) (shape .t) h H (r .lines)) (few : shape .t * h < shape .l) (fit : rowsFit (shape .l) (r .lines) (r .bytes) ≡ true) where
   -- placing takes a line that nobody holds
   pub place-loose : (placeLine shape (r .lines) (r .bytes) < shape .l) × (holder (at (r .lines) (placeLine shape (r .lines) (r .bytes))) ≡ 0)
   place-loose = go (lt-or-ge (lowestFree (r .lines) (shape .l)) (shape .l))
@@ -147,24 +177,24 @@ blockOr0-length m a = ⊎-elim (λ (q : length m < a + 64). rw (lt-leb _ _ q) (l
     (λ (q : a + 64 ≤ length m). rw (le-leb _ _ q) (length-part m a 64 q)) (lt-or-ge (length m) (a + 64))
 
 -- block b goes into line i, which nobody holds and which has it already or no other line does
-module _ {B l t : ℕ} {H : ℕ → ℕ} {lines : List ℕ} (v : Lined B l t H lines) (i b : ℕ) (il : i < l) (z : holder (at lines i) ≡ 0)
+module _ {B l t h : ℕ} {H : ℕ → ℕ → ℕ} {lines : List ℕ} (v : Lined B l t h H lines) (i b : ℕ) (il : i < l) (z : holder (at lines i) ≡ 0)
     (bl : b < B) (small : B < lineBlocks) (alone : (j : ℕ) → (j ≡ i → ⊥) → Has lines j b → ⊥) (c : Bool) where
   fits-word : b < lineBlocks
   fits-word = omega arith
 
-  pub fill-lined : Lined B l t H (set lines i (word b c 0))
+  pub fill-lined : Lined B l t h H (set lines i (word b c 0))
   fill-lined =
       let e = blockOf-word b c 0 fits-word (omega arith) in
       loose-lined v i (word b c 0) il z (holder-word b c 0 fits-word (omega arith)) (λ u. rw e bl) (λ u j n h. alone j n (rw e at h))
 
   pub fill-has : Has (set lines i (word b c 0)) i b
-  fill-has = has-here v i (word b c 0) il b (used-word b c 0 fits-word (omega arith)) (blockOf-word b c 0 fits-word (omega arith))
+  fill-has = has-here (v .apart) i (word b c 0) il b (used-word b c 0 fits-word (omega arith)) (blockOf-word b c 0 fits-word (omega arith))
 
   pub fill-loose : holder (at (set lines i (word b c 0)) i) ≡ 0
-  fill-loose = holder-here v i (word b c 0) il ∙ holder-word b c 0 fits-word (omega arith)
+  fill-loose = holder-here (v .apart) i (word b c 0) il ∙ holder-word b c 0 fits-word (omega arith)
 
   pub fill-keeps : (j : ℕ) → 0 < holder (at lines j) → at (set lines i (word b c 0)) j ≡ at lines j
-  fill-keeps j p = at-other v i (word b c 0) il j (λ q. let y : holder (at lines j) ≡ 0 = ap (λ (k : ℕ). holder (at lines k)) q ∙ z in omega arith)
+  fill-keeps j p = at-other (v .apart) i (word b c 0) il j (λ q. let y : holder (at lines j) ≡ 0 = ap (λ (k : ℕ). holder (at lines k)) q ∙ z in omega arith)
 
 -- the shape that a step leaves: the hand alone has moved, to a line
 pub record Shaped (shape after : Shape) : Type 0 where
@@ -197,23 +227,23 @@ module _ (shape : Shape) (b : ℕ) (r : Rows) where
   bring-none q p = rw (le-ltb _ _ q, le-ltb _ _ p)
 
 -- what bringing block b in gives
-pub record Brings (shape : Shape) (B : ℕ) (H : ℕ → ℕ) (r : Rows) (b : ℕ) (o : Brought) : Type 0 where
+pub record Brings (shape : Shape) (B h : ℕ) (H : ℕ → ℕ → ℕ) (r : Rows) (b : ℕ) (o : Brought) : Type 0 where
   pub line-lt : o .line < shape .l
   pub shaped : Shaped shape (o .shape)
   pub has-it : Has (o .rows .lines) (o .line) b
-  pub lined : Lined B (shape .l) (shape .t) H (o .rows .lines)
+  pub lined : Lined B (shape .l) (shape .t) h H (o .rows .lines)
   pub loose : (lineOf (r .lines) (shape .l) b < shape .l → holder (at (r .lines) (lineOf (r .lines) (shape .l) b)) ≡ 0) → holder (at (o .rows .lines) (o .line)) ≡ 0
   pub keeps : (j : ℕ) → 0 < holder (at (r .lines) j) → at (o .rows .lines) j ≡ at (r .lines) j
   pub lines-long : length (o .rows .lines) ≡ length (r .lines)
   pub bytes-long : length (o .rows .bytes) ≡ length (r .bytes)
   pub memory-long : length (o .rows .memory) ≡ length (r .memory)
 
-module _ (shape : Shape) {B : ℕ} {H : ℕ → ℕ} (r : Rows) (b : ℕ) (v : Lined B (shape .l) (shape .t) H (r .lines)) (few : shape .t < shape .l) (fit : rowsFit (shape .l) (r .lines) (r .bytes) ≡ true)
+module _ (shape : Shape) {B h : ℕ} {H : ℕ → ℕ → ℕ} (r : Rows) (b : ℕ) (v : Lined B (shape .l) (shape .t) h H (r .lines)) (few : shape .t * h < shape .l) (fit : rowsFit (shape .l) (r .lines) (r .bytes) ≡ true)
     (hl : shape .hand < shape .l) (bl : b < B) (small : B < lineBlocks) where
-  pub brings : Brings shape B H r b (bringIn shape b r)
+  pub brings : Brings shape B h H r b (bringIn shape b r)
   brings = go (lt-or-ge (lineOf (r .lines) (shape .l) b) (shape .l))
     where
-      go : (lineOf (r .lines) (shape .l) b < shape .l) ⊎ (shape .l ≤ lineOf (r .lines) (shape .l) b) → Brings shape B H r b (bringIn shape b r)
+      go : (lineOf (r .lines) (shape .l) b < shape .l) ⊎ (shape .l ≤ lineOf (r .lines) (shape .l) b) → Brings shape B h H r b (bringIn shape b r)
       go (inl q) = rw (bring-found shape b r q) (record {
         line-lt = q;
         shaped = unmoved hl;
@@ -228,7 +258,7 @@ module _ (shape : Shape) {B : ℕ} {H : ℕ → ℕ} (r : Rows) (b : ℕ) (v : L
       go (inr q) =
           let p = place-loose shape r v few fit in
           let i = placeLine shape (r .lines) (r .bytes) in
-          let alone : (j : ℕ) → (j ≡ i → ⊥) → Has (r .lines) j b → ⊥ = (λ j n h. lineOf-none (r .lines) (shape .l) b j q (low v j b h) h) in
+          let alone : (j : ℕ) → (j ≡ i → ⊥) → Has (r .lines) j b → ⊥ = (λ j n h. lineOf-none (r .lines) (shape .l) b j q (low (v .apart) j b h) h) in
           rw (bring-placed shape b r q (p .0)) (record {
             line-lt = p .0;
             shaped = moved-to (place-hand shape r v few fit hl);

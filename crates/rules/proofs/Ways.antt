@@ -1,5 +1,5 @@
 -- A law for each way out of each rule of a step.
-use mathlib.Core.Path.{_≡_}
+use mathlib.Core.Path.{_≡_, refl}
 use mathlib.Core.Bool.{true, false}
 use mathlib.Core.List.{List}
 use Prim.Native.Nat.{ℕ, _+_, _<_, _≤_}
@@ -9,18 +9,18 @@ use borrow.Author.Tests.{lt-ltb, le-ltb, eq-eqb, ne-eqb}
 use Rattle.laws.specs.Choice.{both}
 use Rattle.geometry.specs.declared.Shape.{Shape}
 use Rattle.geometry.specs.Shape.{atHand}
-use Rattle.geometry.specs.TagMemory.{leafOf, byteOf, blockPlace}
-use Rattle.block.specs.Block.{putGroup, allZero}
+use Rattle.geometry.specs.TagMemory.{leafOf, byteOf, mapByteOf, mapBitOf, blockPlace}
+use Rattle.block.specs.Block.{putGroup, putBit, allZero}
 use Rattle.tracker.specs.declared.Phase.{Phase}
 use Rattle.tracker.specs.declared.Phase.the-variants.{Map, Set, Clear}
 use Rattle.tracker.specs.declared.Tracker.{Tracker}
 use Rattle.tracker.specs.Answer.{read, done, same}
-use Rattle.line.specs.Word.{held, word}
+use Rattle.line.specs.Word.{blockOf, held, word}
 use Rattle.line.specs.Find.{lineOf}
 use Rattle.rules.specs.State.{Rows, lengthsRight}
 use Rattle.rules.specs.Whole.{mapBlock}
 use Rattle.rules.specs.Place.{lineBytes, placeLine, placeHand, placeMemory, Brought, filled, withMemory, withLines, bringIn}
-use Rattle.rules.specs.Step.{ends, goes, waits, turnsOf, groupIn, bitIn, letGo, probe, holdsMap, onMap, map, leafRead, putIn, writeUnder1, writeUnder0, newLeaf, leafWrite, holding, inLine, byPhase, fit, turnOf}
+use Rattle.rules.specs.Step.{ends, goes, waits, turnsOf, groupIn, bitIn, letGo, probe, holdsMap, onMap, map, leafRead, putIn, writeUnder1, writeUnder0, newLeaf, leafWrite, finish, holding, inLine, byPhase, fit, turnOf}
 
 module _ (shape : Shape) (t : Tracker) (r : Rows) where
   pub probe-miss : shape .l ≤ lineOf (r .lines) (shape .l) (leafOf (t .group)) → probe shape t r ≡ goes t Map shape r
@@ -72,12 +72,12 @@ module _ (shape : Shape) (j : ℕ) (t : Tracker) (r : Rows) where
   module _ (q : bringIn shape (leafOf (t .group)) r .line < shape .l) where
     pub leafRead-is : leafRead shape j t r
         ≡ (let b = bringIn shape (leafOf (t .group)) r in
-        ends (read (groupIn (b .rows .bytes) (b .line) (t .group)) (turnsOf t)) (b .shape) (withLines (b .rows) (letGo (b .rows .lines) j)))
+        ends (read (groupIn (b .rows .bytes) (b .line) (t .group)) (turnsOf t)) (b .shape) (withLines (b .rows) (letGo false (b .rows .lines) j)))
     unfolding leafRead
     leafRead-is = rw (lt-ltb _ _ q)
 
     pub write1-same : (let b = bringIn shape (leafOf (t .group)) r in groupIn (b .rows .bytes) (b .line) (t .group) ≡ t .value)
-        → writeUnder1 shape j t r ≡ (let b = bringIn shape (leafOf (t .group)) r in ends (same (turnsOf t)) (b .shape) (withLines (b .rows) (letGo (b .rows .lines) j)))
+        → writeUnder1 shape j t r ≡ (let b = bringIn shape (leafOf (t .group)) r in ends (same (turnsOf t)) (b .shape) (withLines (b .rows) (letGo false (b .rows .lines) j)))
     unfolding writeUnder1
     write1-same e = rw (lt-ltb _ _ q, eq-eqb _ _ e)
 
@@ -86,7 +86,7 @@ module _ (shape : Shape) (j : ℕ) (t : Tracker) (r : Rows) where
     unfolding writeUnder1
     write1-put e = rw (lt-ltb _ _ q, ne-eqb _ _ e)
 
-  pub write0-same : t .value ≡ 0 → writeUnder0 shape j t r ≡ ends (same (turnsOf t)) shape (withLines r (letGo (r .lines) j))
+  pub write0-same : t .value ≡ 0 → writeUnder0 shape j t r ≡ ends (same (turnsOf t)) shape (withLines r (letGo false (r .lines) j))
   unfolding writeUnder0
   write0-same e = rw (eq-eqb _ _ e)
 
@@ -122,9 +122,19 @@ module _ (j : ℕ) (t : Tracker) (b : Brought) where
 
   pub putIn-done : allZero (lineBytes (bytesWith t b) (b .line)) ≡ false
       → putIn j t b ≡ ends (done (turnsOf t)) (b .shape)
-      (record { lines = letGo (set (b .rows .lines) (b .line) (word (leafOf (t .group)) true 0)) j; bytes = bytesWith t b; memory = b .rows .memory })
+      (record { lines = letGo false (set (b .rows .lines) (b .line) (word (leafOf (t .group)) true 0)) j; bytes = bytesWith t b; memory = b .rows .memory })
   unfolding putIn
   putIn-done z = rw z
+
+-- Finish, where line j has the map block
+pub finish-is : (shape : Shape) (j bit : ℕ) (t : Tracker) (r : Rows) → blockOf (getD (r .lines) j 0) ≡ mapBlock (shape .n) (t .group)
+    → finish shape j bit t r ≡ ends (done (turnsOf t)) shape (record {
+      lines = set (r .lines) j (word (mapBlock (shape .n) (t .group)) true 0);
+      bytes = putBit (r .bytes) (blockPlace j + mapByteOf (leafOf (t .group))) (mapBitOf (leafOf (t .group))) bit;
+      memory = r .memory;
+    })
+unfolding finish
+finish-is shape j bit t r e = rw e refl
 
 module _ (shape : Shape) (t : Tracker) (r : Rows) (p : Phase) where
   pub inLine-is : lineOf (r .lines) (shape .l) (mapBlock (shape .n) (t .group)) < shape .l → inLine shape t r p ≡ holding shape (lineOf (r .lines) (shape .l) (mapBlock (shape .n) (t .group))) t r p

@@ -32,6 +32,17 @@ use Rattle.rules.proofs.Lined.{at, Has, Held, Lined, low, lineOf-is, li
 unfoldable pub heldOf : ℕ → List Tracker → ℕ → ℕ
 heldOf n ts x = pick (holdsAt (trackerAt ts x .phase)) (suc (mapBlock n (trackerAt ts x .group))) 0
 
+-- a tracker holds one block at a time, and so one line
+abbrev pub heldLines : ℕ
+heldLines = 1
+
+-- the lines of a state with this shape and these trackers: each names its holder, which holds its block
+abbrev pub heldBy : ℕ → List Tracker → ℕ → ℕ → ℕ
+heldBy n ts x k = heldOf n ts x
+
+abbrev pub LinedBy : Shape → List Tracker → List ℕ → Type 0
+LinedBy shape ts lines = Lined (blocks (shape .n)) (shape .l) (shape .t) heldLines (heldBy (shape .n) ts) lines
+
 -- the trackers: those from t on are idle, busy groups exist, phases are as they must be
 pub record Tracked (n t : ℕ) (ts : List Tracker) : Type 0 where
   pub long : t ≤ length ts
@@ -42,7 +53,7 @@ pub record Tracked (n t : ℕ) (ts : List Tracker) : Type 0 where
 pub record Whole (s : State) : Type 0 where
   pub limits-ok : limits (s .shape) ≡ true
   pub hand-lt : s .shape .hand < s .shape .l
-  pub lined : Lined (blocks (s .shape .n)) (s .shape .l) (s .shape .t) (heldOf (s .shape .n) (s .trackers)) (s .lines)
+  pub lined : LinedBy (s .shape) (s .trackers) (s .lines)
   pub tracked : Tracked (s .shape .n) (s .shape .t) (s .trackers)
 
 module _ (shape : Shape) (h : limits shape ≡ true) where
@@ -161,16 +172,18 @@ module _ (s : State) (w : whole s ≡ true) where
   unfolding trackerWhole mine
   tracker-facts x q = all-at (trackerWhole s) (s .shape .t) trackers-ok x q
 
-  lined-facts : Lined (blocks (s .shape .n)) (s .shape .l) (s .shape .t) (heldOf (s .shape .n) (s .trackers)) (s .lines)
+  lined-facts : LinedBy (s .shape) (s .trackers) (s .lines)
   unfolding mine
   lined-facts = record {
-    long = leb-true _ _ (both-left _ _ part2);
-    above = free-above;
-    exists = λ i b h. ltb-true _ _ (both-left _ _ (both-left _ _ (line-facts i b h)));
-    one = λ i j b h h'. sym (eqb-true _ _ (both-right _ _ (both-left _ _ (line-facts i b h)))) ∙ eqb-true _ _ (both-right _ _ (both-left _ _ (line-facts j b h')));
+    apart = record {
+      long = leb-true _ _ (both-left _ _ part2);
+      above = free-above;
+      exists = λ i b h. ltb-true _ _ (both-left _ _ (both-left _ _ (line-facts i b h)));
+      one = λ i j b h h'. sym (eqb-true _ _ (both-right _ _ (both-left _ _ (line-facts i b h)))) ∙ eqb-true _ _ (both-right _ _ (both-left _ _ (line-facts j b h')));
+    };
     named = λ i b h p. let r = implies-true _ _ (both-right _ _ (line-facts i b h)) (holder-held _ p) in
-        (leb-true _ _ (both-left _ _ r), holds-heldOf (s .shape .n) (s .trackers) _ b (both-right _ _ r));
-    in-line = in-line;
+        (leb-true _ _ (both-left _ _ r), record { which = 0; which-lt = omega arith; is-held = holds-heldOf (s .shape .n) (s .trackers) _ b (both-right _ _ r) });
+    in-line = λ x k m q kl e. in-line x m q e;
   }
     where
       in-line : (x m : ℕ) → x < s .shape .t → heldOf (s .shape .n) (s .trackers) x ≡ suc m → Held (s .lines) x m
@@ -208,27 +221,27 @@ module _ (s : State) (f : Whole s) where
   unfolding lineWhole
   line-back i = implied _ _ (λ u.
       let h : Has (s .lines) i (blockOf (at (s .lines) i)) = record { is-used = u; is-block = refl } in
-      both-true _ _ (both-true _ _ (lt-ltb _ _ (f .lined .exists i _ h)) (eq-eqb _ _ (lineOf-is (f .lined) i _ h)))
-      (implied _ _ (λ p. let r = f .lined .named i _ h (held-holder _ p) in both-true _ _ (le-leb _ _ (r .0)) (heldOf-holds (s .shape .n) (s .trackers) _ _ (r .1)))))
+      both-true _ _ (both-true _ _ (lt-ltb _ _ (f .lined .apart .exists i _ h)) (eq-eqb _ _ (lineOf-is (f .lined .apart) i _ h)))
+      (implied _ _ (λ p. let r = f .lined .named i _ h (held-holder _ p) in both-true _ _ (le-leb _ _ (r .0)) (heldOf-holds (s .shape .n) (s .trackers) _ _ (r .1 .is-held)))))
 
   tracker-back : (x : ℕ) → x < s .shape .t → trackerWhole s x ≡ true
   unfolding trackerWhole
   tracker-back x q =
       both-true _ _ (both-true _ _ (implied _ _ (λ p. lt-ltb _ _ (f .tracked .group-lt x (no-true _ p)))) (f .tracked .phase-ok x))
       (implied _ _ (λ p.
-      let h = f .lined .in-line x (mapBlock (s .shape .n) (trackerAt (s .trackers) x .group)) q (heldOf-yes (s .shape .n) (s .trackers) x p) in
-      let e : lineOf (s .lines) (s .shape .l) (mapBlock (s .shape .n) (trackerAt (s .trackers) x .group)) ≡ h .line = lineOf-is (f .lined) (h .line) _ (h .has-it) in
-      rw e (both-true _ _ (lt-ltb _ _ (low (f .lined) (h .line) _ (h .has-it))) (eq-eqb _ _ (h .is-holder)))))
+      let h = f .lined .in-line x 0 (mapBlock (s .shape .n) (trackerAt (s .trackers) x .group)) q (omega arith) (heldOf-yes (s .shape .n) (s .trackers) x p) in
+      let e : lineOf (s .lines) (s .shape .l) (mapBlock (s .shape .n) (trackerAt (s .trackers) x .group)) ≡ h .line = lineOf-is (f .lined .apart) (h .line) _ (h .has-it) in
+      rw e (both-true _ _ (lt-ltb _ _ (low (f .lined .apart) (h .line) _ (h .has-it))) (eq-eqb _ _ (h .is-holder)))))
 
   no-used : (i : ℕ) → s .shape .l ≤ i → no (used (at (s .lines) i)) ≡ true
   unfolding no
-  no-used i q = rw (f .lined .above i q)
+  no-used i q = rw (f .lined .apart .above i q)
 
   pub facts-whole : whole s ≡ true
   unfolding whole
   facts-whole =
       both-true _ _ (both-true _ _ (f .limits-ok) (lt-ltb _ _ (f .hand-lt)))
-      (both-true _ _ (both-true _ _ (le-leb _ _ (f .lined .long)) (le-leb _ _ (f .tracked .long)))
+      (both-true _ _ (both-true _ _ (le-leb _ _ (f .lined .apart .long)) (le-leb _ _ (f .tracked .long)))
       (both-true _ _ (both-true _ _
       (all-is _ _ (λ i q. implied _ _ (λ p. no-used i (leb-true _ _ p))))
       (all-is _ _ (λ x q. implied _ _ (λ p. f .tracked .above x (leb-true _ _ p)))))

@@ -1,6 +1,6 @@
 -- 01 "One step of a tracker", rule by rule. x is the tracker's number, t the tracker as it is handed in, r the rows.
 use mathlib.Core.List.{List}
-use mathlib.Core.Bool.{Bool, true}
+use mathlib.Core.Bool.{Bool, true, false}
 use Prim.Native.Nat.{ℕ, _+_}
 use lib.Dec.{eqb, ltb, leb}
 use lib.ListN.{length, getD, set, replicate}
@@ -14,7 +14,7 @@ use Rattle.tracker.specs.declared.Phase.the-variants.{Idle, Probe, Map, Leaf, S
 use Rattle.tracker.specs.declared.Tracker.{Tracker}
 use Rattle.tracker.specs.Tracker.{idle, tick, goesTo, counted}
 use Rattle.tracker.specs.Answer.{Said, wait, moved, read, done, same, no}
-use Rattle.line.specs.Word.{held, heldBy, word, holders}
+use Rattle.line.specs.Word.{blockOf, held, heldBy, word, holders}
 use Rattle.line.specs.Find.{lineOf}
 use Rattle.rules.specs.State.{Rows, lengthsRight}
 use Rattle.rules.specs.Whole.{mapBlock}
@@ -52,12 +52,18 @@ groupIn bytes i g = groupAt bytes (blockPlace i + byteOf g)
 abbrev pub bitIn : List ℕ → ℕ → ℕ → ℕ
 bitIn bytes i g = bitAt bytes (blockPlace i + mapByteOf (leafOf g)) (mapBitOf (leafOf g))
 
--- line i's block held by tracker x, and let go
+-- line i's block held by tracker x, and let go; `changed` says that the step changed the line
 abbrev pub held-by : List ℕ → ℕ → ℕ → List ℕ
 held-by lines i x = set lines i (heldBy (getD lines i 0) (x + 1))
 
-abbrev pub letGo : List ℕ → ℕ → List ℕ
-letGo lines i = set lines i (heldBy (getD lines i 0) 0)
+abbrev pub letGo : (changed : Bool) → List ℕ → ℕ → List ℕ
+letGo changed lines i =
+    let w = getD lines i 0 in
+    set lines i (pick changed (word (blockOf w) true 0) (heldBy w 0))
+
+-- "end .., let go": every ending of a tracker that holds its map block, which is in line j
+abbrev pub letsGo : Said → Shape → (changed : Bool) (j : ℕ) → Rows → Turned
+letsGo a shape changed j r = ends a shape (withLines r (letGo changed (r .lines) j))
 
 -- "Leaf in a line: a read ends with the group; a write whose group equals v ends 'same'. Otherwise on to Map."
 unfoldable pub probe : Shape → Tracker → Rows → Turned
@@ -93,7 +99,7 @@ unfoldable pub leafRead : Shape → ℕ → Tracker → Rows → Turned
 leafRead shape j t r =
     let b = bringIn shape (leafOf (t .group)) r in
     pick (ltb (b .line) (shape .l))
-    (ends (read (groupIn (b .rows .bytes) (b .line) (t .group)) (turnsOf t)) (b .shape) (withLines (b .rows) (letGo (b .rows .lines) j)))
+    (letsGo (read (groupIn (b .rows .bytes) (b .line) (t .group)) (turnsOf t)) (b .shape) false j (b .rows))
     (refuses 4 t shape r)
 
 -- "Else put v in. All 64 bytes now zero: the line is made free without writing to memory, on to Finish (clear).
@@ -104,8 +110,8 @@ putIn j t b =
     let bytes = putGroup (b .rows .bytes) (blockPlace i + byteOf (t .group)) (t .value) in
     pick (allZero (lineBytes bytes i))
     (goes t Clear (b .shape) (record { lines = set (b .rows .lines) i 0; bytes = bytes; memory = b .rows .memory }))
-    (ends (done (turnsOf t)) (b .shape)
-    (record { lines = letGo (set (b .rows .lines) i (word (leafOf (t .group)) true 0)) j; bytes = bytes; memory = b .rows .memory }))
+    (letsGo (done (turnsOf t)) (b .shape) false j
+    (record { lines = set (b .rows .lines) i (word (leafOf (t .group)) true 0); bytes = bytes; memory = b .rows .memory }))
 
 -- "Bit 1: bring in the leaf .. group equal to v: end 'same', let go."
 unfoldable pub writeUnder1 : Shape → ℕ → Tracker → Rows → Turned
@@ -113,7 +119,7 @@ writeUnder1 shape j t r =
     let b = bringIn shape (leafOf (t .group)) r in
     pick (ltb (b .line) (shape .l))
     (pick (eqb (groupIn (b .rows .bytes) (b .line) (t .group)) (t .value))
-    (ends (same (turnsOf t)) (b .shape) (withLines (b .rows) (letGo (b .rows .lines) j)))
+    (letsGo (same (turnsOf t)) (b .shape) false j (b .rows))
     (putIn j t b))
     (refuses 4 t shape r)
 
@@ -126,7 +132,7 @@ unfoldable pub writeUnder0 : Shape → ℕ → Tracker → Rows → Turned
 writeUnder0 shape j t r =
     let i = lineOf (r .lines) (shape .l) (leafOf (t .group)) in
     let p = placeLine shape (r .lines) (r .bytes) in
-    pick (eqb (t .value) 0) (ends (same (turnsOf t)) shape (withLines r (letGo (r .lines) j)))
+    pick (eqb (t .value) 0) (letsGo (same (turnsOf t)) shape false j r)
     (pick (ltb i (shape .l)) (goes t Set shape (filled r i (leafOf (t .group)) true (newLeaf t)))
     (pick (ltb p (shape .l))
     (goes t Set (atHand shape (placeHand shape (r .lines) (r .bytes))) (filled (withMemory r (placeMemory shape r)) p (leafOf (t .group)) true (newLeaf t)))
@@ -140,12 +146,8 @@ leafWrite shape j t r = pick (eqb (bitIn (r .bytes) j (t .group)) 0) (writeUnder
 unfoldable pub finish : Shape → ℕ → ℕ → Tracker → Rows → Turned
 finish shape j bit t r =
     let k = leafOf (t .group) in
-    ends (done (turnsOf t)) shape
-    (record {
-      lines = set (r .lines) j (word (mapBlock (shape .n) (t .group)) true 0);
-      bytes = putBit (r .bytes) (blockPlace j + mapByteOf k) (mapBitOf k) bit;
-      memory = r .memory;
-    })
+    letsGo (done (turnsOf t)) shape true j
+    (record { lines = r .lines; bytes = putBit (r .bytes) (blockPlace j + mapByteOf k) (mapBitOf k) bit; memory = r .memory })
 
 -- a step from Leaf or Finish, where the tracker holds its map block, which is in line j
 abbrev pub holding : Shape → ℕ → Tracker → Rows → Phase → Turned

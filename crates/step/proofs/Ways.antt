@@ -17,12 +17,12 @@ use Rattle.tracker.specs.declared.Phase.{Phase}
 use Rattle.tracker.specs.declared.Phase.the-variants.{Probe, Leaf, Set, Clear}
 use Rattle.tracker.specs.declared.Tracker.{Tracker}
 use Rattle.tracker.specs.Answer.{read, done, same}
-use Rattle.line.specs.Word.{held, heldBy, word, holders}
+use Rattle.line.specs.Word.{held, heldBy, holders}
 use Rattle.line.specs.Find.{lineOf}
 use Rattle.rules.specs.State.{Rows, lengthsRight}
 use Rattle.rules.specs.Whole.{mapBlock}
 use Rattle.rules.specs.Place.{rowsFit, Brought, bringIn}
-use Rattle.rules.specs.Step.{ends, goes, waits, refuses, turnsOf, bitIn, holdsMap, onMap, map, leafWrite, finish, inLine, byPhase, fit, turnOf}
+use Rattle.rules.specs.Step.{ends, goes, waits, refuses, turnsOf, bitIn, letGo, holdsMap, onMap, map, leafWrite, finish, inLine, byPhase, fit, turnOf}
 use Rattle.lines.specs.Lines.{rows, fetched}
 use Rattle.lines.proofs.Ways.{left, line-is, rows-are, bringIn-fetched, fetched-same}
 use Rattle.leaf.specs.Leaf.{probeOn, leafOn}
@@ -78,10 +78,10 @@ module _ (shape : Shape) (x i b : ℕ) (t : Tracker) (lines bytes memory : List 
     map-fetched o = rw (brought, ← eb, ← e, le-ltb _ _ h, lt-ltb _ _ o) refl
 
 -- Finish
-pub finish-is : (shape : Shape) (j v k y z b w : ℕ) (t : Tracker) (lines bytes bs m : List ℕ) → k ≡ leafOf (t .group) → y ≡ mapByteOf k → z ≡ mapBitOf k → b ≡ mapBlock (shape .n) (t .group)
-    → w ≡ word b true 0 → bs ≡ putBit bytes (64 * j + y) z v → finish shape j v t (rows lines bytes m) ≡ ends (done (turnsOf t)) shape (rows (set lines j w) bs m)
+pub finish-is : (shape : Shape) (j v k y z : ℕ) (t : Tracker) (lines bytes bs m gone : List ℕ) → k ≡ leafOf (t .group) → y ≡ mapByteOf k → z ≡ mapBitOf k
+    → gone ≡ letGo true lines j → bs ≡ putBit bytes (64 * j + y) z v → finish shape j v t (rows lines bytes m) ≡ ends (done (turnsOf t)) shape (rows gone bs m)
 unfolding finish
-finish-is shape j v k y z b w t lines bytes bs m ek ey ez eb ew e = rw (e, ew, eb, ez, ey, ek) refl
+finish-is shape j v k y z t lines bytes bs m gone ek ey ez eg e = rw (e, eg, ez, ey, ek) refl
 
 -- the steps of a tracker that holds its map block
 module _ (shape : Shape) (j b : ℕ) (t : Tracker) (r : Rows) (eb : b ≡ mapBlock (shape .n) (t .group)) (e : j ≡ lineOf (r .lines) (shape .l) b) where

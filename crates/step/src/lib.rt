@@ -124,7 +124,7 @@ fn finish(
     lines: &mut [u32],
     bytes: &mut [u8],
 ) -> Turned
-    requires { ⌜ (shape .n ≤ mostLeaves) × (j < length (now lines)) × (64 * j + 64 ≤ length (now bytes)) ⌝ }
+    requires { ⌜ (j < length (now lines)) × (64 * j + 64 ≤ length (now bytes)) ⌝ }
     ensures { λ r. ⌜ ((m : List ℕ) → turned r (now (lines .exit)) (now (bytes .exit)) m ≡ finish shape j (pick set 1 0) t (rows (now (lines .entry)) (now (bytes .entry)) m)) ⌝ }
 {
     let k = Geometry::leaf_of(t.group);
@@ -134,7 +134,7 @@ fn finish(
         Geometry::map_bit_of(k),
         set,
     );
-    lines[j] = line::word(map_block(shape.n, t.group), true, 0);
+    leaf::let_go(lines, j, true);
     turned::ends_done(shape, t)
 }
 

@@ -25,17 +25,8 @@ map-bit-of-requires c κs = search needs
 put-bit-requires : tie.Need-put-bit-requires
 put-bit-requires c κs = search needs
 
-map-block-requires : tie.Need-map-block-requires
-map-block-requires c κs = search needs
-
-word-requires : tie.Need-word-requires
-word-requires c κs = search needs
-
-mul-lines : tie.Need-mul-lines
-mul-lines c = search needs
-
-slice-write-lines : tie.Need-slice-write-lines
-slice-write-lines c = search needs
+let-go-requires : tie.Need-let-go-requires
+let-go-requires c κs = search needs
 
 ends-done-requires : tie.Need-ends-done-requires
 ends-done-requires c κs = search needs
@@ -48,8 +39,8 @@ same-length-2 c = search needs
 
 returns : tie.Need-returns
 returns c =
-    λ m. by-rule (finish-is _ _ _ _ _ _ _ _ _ _ _ _ m (c .before .before .before .before .before .before .before .before .before .leaf-of .ensures) (c .before .before .before .before .before .before .before .map-byte-of .ensures) (c .before .before .before .before .before .before .map-bit-of .ensures) (c .before .before .map-block .ensures) (c .before .word .ensures) (c .before .before .before .before .before .put-bit .ensures))
+    λ m. by-rule (finish-is _ _ _ _ _ _ _ _ _ _ m _ (c .before .before .before .before .before .before .before .before .before .before .before .leaf-of .ensures) (c .before .before .before .before .before .before .before .before .before .map-byte-of .ensures) (c .before .before .before .before .before .before .before .before .map-bit-of .ensures) (c .before .before .before .let-go .ensures) (c .before .before .before .before .before .before .before .put-bit .ensures))
     (c .ends-done .ensures _ _ m)
 
 pub finish-spec : {M : Type 1} → statement M
-finish-spec = tie.close (tie.spec leaf-of-requires mul-put-bit map-byte-of-requires add-put-bit map-bit-of-requires put-bit-requires map-block-requires word-requires mul-lines slice-write-lines ends-done-requires same-length same-length-2 returns)
+finish-spec = tie.close (tie.spec leaf-of-requires mul-put-bit map-byte-of-requires add-put-bit map-bit-of-requires put-bit-requires let-go-requires ends-done-requires same-length same-length-2 returns)
