@@ -40,14 +40,14 @@ module _ (s : State) (bytes memory : List ℕ) (k : ℕ) (e : showNo s bytes mem
   pub shown-bytes : bytesAt bytes memory (shownAt s bytes memory k) ≡ show s bytes memory k
   shown-bytes =
       ⊎-elim
-      (λ h. rw (← shown-line s bytes memory k e (lineOf (s .lines) (s .l) k) refl h)
-      (at-line bytes memory (lineOf (s .lines) (s .l) k) (omega (arith, show-in s bytes memory k e)) ∙ sym (show-line s bytes memory k e (lineOf (s .lines) (s .l) k) refl h)))
+      (λ h. rw (← shown-line s bytes memory k e (lineOf (s .lines) (s .shape .l) k) refl h)
+      (at-line bytes memory (lineOf (s .lines) (s .shape .l) k) (omega (arith, show-in s bytes memory k e)) ∙ sym (show-line s bytes memory k e (lineOf (s .lines) (s .shape .l) k) refl h)))
       (λ h. ⊎-elim
       (λ z. rw (← shown-empty s bytes memory k e h z) (sym (empty (show s bytes memory k) z)))
       (λ p. let q : length (show s bytes memory k) ≡ 0 → ⊥ = λ z. omega arith in
       rw (← shown-memory s bytes memory k e h q) (at-memory bytes memory k ∙ sym (in-memory h q)))
       (refused-or-not (length (show s bytes memory k))))
-      (lt-or-ge (lineOf (s .lines) (s .l) k) (s .l))
+      (lt-or-ge (lineOf (s .lines) (s .shape .l) k) (s .shape .l))
     where
-      in-memory : s .l ≤ lineOf (s .lines) (s .l) k → (length (show s bytes memory k) ≡ 0 → ⊥) → show s bytes memory k ≡ part memory (64 * k) 64
+      in-memory : s .shape .l ≤ lineOf (s .lines) (s .shape .l) k → (length (show s bytes memory k) ≡ 0 → ⊥) → show s bytes memory k ≡ part memory (64 * k) 64
       in-memory h q = ⊎-elim (λ b. show-memory s bytes memory k e h b) (λ b. absurd (q (ap length (show-empty s bytes memory k e h b)))) (one-or-not (shownBit s bytes memory k))

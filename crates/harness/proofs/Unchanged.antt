@@ -67,7 +67,7 @@ not-no (done k) e = refl
 not-no (same k) e = refl
 not-no (no c) e = let z : _≡_ {A = ℕ} 0 1 = cc in absurd (omega arith)
 
-stepNo-tests : (s : State) (bytes memory : List ℕ) (x : ℕ) → refusal (calls.stateTests s bytes memory ++ calls.stepTests (s .t) x (s .trackers)) ≡ stepNo s bytes memory x
+stepNo-tests : (s : State) (bytes memory : List ℕ) (x : ℕ) → refusal (calls.stateTests s bytes memory ++ calls.stepTests (s .shape) x (s .trackers)) ≡ stepNo s bytes memory x
 unfolding stepNo
 stepNo-tests s bytes memory x = refl
 
@@ -79,8 +79,8 @@ module _ (s : State) (bytes memory : List ℕ) (x : ℕ) where
     where
       accepted : stepNo s bytes memory x ≡ 0 → isNo (step s bytes memory x .said) ≡ false
       accepted e =
-          let q = refusal-hold (calls.stateTests s bytes memory ++ calls.stepTests (s .t) x (s .trackers)) refl (stepNo-tests s bytes memory x ∙ e) in
-          let r = step-free s bytes memory (q .0) (q .1 .0) x (refusal-0 (calls.stepTests (s .t) x (s .trackers)) (q .1 .1)) in
+          let q = refusal-hold (calls.stateTests s bytes memory ++ calls.stepTests (s .shape) x (s .trackers)) refl (stepNo-tests s bytes memory x ∙ e) in
+          let r = step-free s bytes memory (q .0) (q .1 .0) x (refusal-0 (calls.stepTests (s .shape) x (s .trackers)) (q .1 .1)) in
           step-not-refused s bytes memory (q .0) (q .1 .0) x (r .0) (r .1)
 
 module _ (w bytes memory : List ℕ) (x : ℕ) (answer : List ℕ) where

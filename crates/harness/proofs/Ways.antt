@@ -14,7 +14,7 @@ use Rattle.laws.proofs.Choice.{both-when, both-false-left}
 use Rattle.laws.proofs.Splice.{lt-or-ge}
 use Rattle.laws.proofs.Refusal.{refusal-0, refusal-first, unless-0, unless-no}
 use Rattle.geometry.specs.TagMemory.{groups, mostLeaves, values}
-use Rattle.geometry.proofs.Groups.{groups-most}
+use Rattle.geometry.proofs.Places.{groups-most}
 use Rattle.line.specs.Find.{lineOf}
 use Rattle.rules.specs.State.{State, zeroState}
 use Rattle.rules.specs.Whole.{whole}
@@ -81,7 +81,7 @@ module _ (f : State → Out) (w bytes memory : List ℕ) where
 module _ (s : State) (bytes memory : List ℕ) (x write bottom v : ℕ) where
   -- 4 and 2, then 5, then 6, whatever the group is
   wideNo : ℕ
-  wideNo = pick (eqb (unfit s bytes memory) 0) (pick (ltb x (s .t)) 6 5) (unfit s bytes memory)
+  wideNo = pick (eqb (unfit s bytes memory) 0) (pick (ltb x (s .shape .t)) 6 5) (unfit s bytes memory)
 
   wide-no : (g : ℕ) → 4294967295 ≤ g → issueNo s bytes memory x (accessOf write bottom g v) ≡ wideNo
   unfolding wideNo
@@ -89,20 +89,20 @@ module _ (s : State) (bytes memory : List ℕ) (x write bottom v : ℕ) where
       ⊎-elim
       (λ p. rw (ne-eqb (unfit s bytes memory) 0 (λ e. absurd (omega arith))) (issue-unfit s bytes memory x (accessOf write bottom g v) p))
       (λ q. let z : unfit s bytes memory ≡ 0 = omega arith in
-      let n : s .n ≤ mostLeaves = n-most _ _ _ (whole-facts s (fit-whole s bytes memory z) .limits-ok) in
-      let past : ltb g (groups (s .n)) ≡ false = le-ltb g (groups (s .n)) (omega (arith, groups-most (s .n) 262144 n)) in
-      rw (eq-eqb (unfit s bytes memory) 0 z) (issue-fit s bytes memory x (accessOf write bottom g v) z ∙ by-x (ltb x (s .t)) refl past))
+      let n : s .shape .n ≤ mostLeaves = n-most _ (whole-facts s (fit-whole s bytes memory z) .limits-ok) in
+      let past : ltb g (groups (s .shape .n)) ≡ false = le-ltb g (groups (s .shape .n)) (omega (arith, groups-most (s .shape .n) 262144 n)) in
+      rw (eq-eqb (unfit s bytes memory) 0 z) (issue-fit s bytes memory x (accessOf write bottom g v) z ∙ by-x (ltb x (s .shape .t)) refl past))
       (lt-or-ge 0 (unfit s bytes memory))
     where
-      by-x : (b : Bool) → ltb x (s .t) ≡ b → ltb g (groups (s .n)) ≡ false → refusal (issueTests (s .n) (s .t) x (accessOf write bottom g v) (s .trackers)) ≡ pick b 6 5
-      by-x true t past = refusal-first ((ltb x (s .t), 5) ∷ []) _ 6 _ (t, tt) past
+      by-x : (b : Bool) → ltb x (s .shape .t) ≡ b → ltb g (groups (s .shape .n)) ≡ false → refusal (issueTests (s .shape) x (accessOf write bottom g v) (s .trackers)) ≡ pick b 6 5
+      by-x true t past = refusal-first ((ltb x (s .shape .t), 5) ∷ []) _ 6 _ (t, tt) past
       by-x false f past = refusal-first [] _ 5 _ tt f
 
   wide-refused : 0 < wideNo
   unfolding wideNo
   wide-refused =
       ⊎-elim (λ p. rw (ne-eqb (unfit s bytes memory) 0 (λ e. absurd (omega arith))) p)
-      (λ q. let z : unfit s bytes memory ≡ 0 = omega arith in rw (eq-eqb (unfit s bytes memory) 0 z) (five-six (ltb x (s .t))))
+      (λ q. let z : unfit s bytes memory ≡ 0 = omega arith in rw (eq-eqb (unfit s bytes memory) 0 z) (five-six (ltb x (s .shape .t))))
       (lt-or-ge 0 (unfit s bytes memory))
     where
       five-six : (b : Bool) → 0 < pick b 6 5
@@ -162,17 +162,17 @@ module _ (s : State) (bytes memory : List ℕ) (k : ℕ) where
   shown-no c e h = rw (← e) (sym (unless-no _ refusedBy h))
 
   module _ (e : showNo s bytes memory k ≡ 0) where
-    pub shown-line : (i : ℕ) → i ≡ lineOf (s .lines) (s .l) k → i < s .l → 1 + 64 * i ≡ shownAt s bytes memory k
+    pub shown-line : (i : ℕ) → i ≡ lineOf (s .lines) (s .shape .l) k → i < s .shape .l → 1 + 64 * i ≡ shownAt s bytes memory k
     unfolding shownAt unless
-    shown-line i q h = rw (e, ← q, lt-ltb i (s .l) h)
+    shown-line i q h = rw (e, ← q, lt-ltb i (s .shape .l) h)
 
-    pub shown-empty : s .l ≤ lineOf (s .lines) (s .l) k → length (show s bytes memory k) ≡ 0 → 0 ≡ shownAt s bytes memory k
+    pub shown-empty : s .shape .l ≤ lineOf (s .lines) (s .shape .l) k → length (show s bytes memory k) ≡ 0 → 0 ≡ shownAt s bytes memory k
     unfolding shownAt unless
-    shown-empty h z = rw (e, le-ltb (lineOf (s .lines) (s .l) k) (s .l) h, z)
+    shown-empty h z = rw (e, le-ltb (lineOf (s .lines) (s .shape .l) k) (s .shape .l) h, z)
 
-    pub shown-memory : s .l ≤ lineOf (s .lines) (s .l) k → (length (show s bytes memory k) ≡ 0 → ⊥) → 1099511627776 + (1 + 64 * k) ≡ shownAt s bytes memory k
+    pub shown-memory : s .shape .l ≤ lineOf (s .lines) (s .shape .l) k → (length (show s bytes memory k) ≡ 0 → ⊥) → 1099511627776 + (1 + 64 * k) ≡ shownAt s bytes memory k
     unfolding shownAt unless
-    shown-memory h z = rw (e, le-ltb (lineOf (s .lines) (s .l) k) (s .l) h, ne-eqb (length (show s bytes memory k)) 0 z)
+    shown-memory h z = rw (e, le-ltb (lineOf (s .lines) (s .shape .l) k) (s .shape .l) h, ne-eqb (length (show s bytes memory k)) 0 z)
 
 -- whole
 module _ (w : List ℕ) where

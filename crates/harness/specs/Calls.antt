@@ -81,9 +81,9 @@ tagStep w bytes memory x answer =
 -- "0 for an empty part, else 1 plus the byte's place, in the line bytes, or 2^40 plus 1 plus the place, in memory"
 unfoldable pub shownAt : State → List ℕ → List ℕ → ℕ → ℕ
 shownAt s bytes memory k =
-    let i = lineOf (s .lines) (s .l) k in
+    let i = lineOf (s .lines) (s .shape .l) k in
     unless (showNo s bytes memory k)
-    (pick (ltb i (s .l)) (1 + 64 * i) (pick (eqb (length (show s bytes memory k)) 0) 0 (1099511627776 + (1 + 64 * k))))
+    (pick (ltb i (s .shape .l)) (1 + 64 * i) (pick (eqb (length (show s bytes memory k)) 0) 0 (1099511627776 + (1 + 64 * k))))
     refusedBy
 
 -- the 64 bytes that such a number says

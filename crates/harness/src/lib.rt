@@ -167,7 +167,7 @@ fn shown_at<'a>(s: State, bytes: &'a [u8], memory: &'a [u8], k: u64) -> u64
     if 0 < c {
         return refused(c);
     }
-    let l = s.l;
+    let l = s.shape.l;
     let i = line::line_of(&s.lines, l, k as u32);
     if i < l {
         return 1 + (Geometry::BLOCK_LEN * i) as u64;
