@@ -164,7 +164,8 @@ impl Bench<'_> {
         self.calls += 1;
         if self.big() {
             let n = self.words[0];
-            let there = |range: &std::ops::Range<usize>| range.end <= self.right.memory;
+            // A state's own n may be any number: a place that is none is not looked at.
+            let there = |range: &std::ops::Range<usize>| range.start < range.end && range.end <= self.right.memory;
             if self.calls % 1000 == 0 {
                 looks.push((self.lent.clone(), self.memory.clone()));
             }

@@ -32,8 +32,6 @@ use Rattle.restoring.proofs.restore.Kinds as restore-kinds
 use Rattle.restoring.proofs.restore.Reads as restore
 use Rattle.reader.proofs.read_at.Kinds as read-at-kinds
 use Rattle.reader.proofs.read_at.Reads as read-at
-use Rattle.reader.proofs.opened.Kinds as opened-image-kinds
-use Rattle.reader.proofs.opened.Reads as opened-image
 use Rattle.play.proofs.One.{one-play, one-refuse-all}
 use Rattle.play.proofs.play.Kinds as play-kinds
 use Rattle.play.proofs.play.Reads as play
@@ -79,10 +77,6 @@ one-restore κs a x y s t p q = (p .0 ∙ sym (q .0), p .1 ∙ sym (q .1))
 
 pub one-read-at : OfAnyTwo read-at-kinds.ps read-at-kinds.r read-at.Post (λ κs x y s t. x ≡ y)
 one-read-at κs a x y s t p q = p ∙ sym q
-
--- what a reader is opened on
-pub one-opened : OfAnyTwo opened-image-kinds.ps opened-image-kinds.r opened-image.Post (λ κs x y s t. x .now ≡ y .now)
-one-opened κs a x y s t p q = p ∙ sym q
 
 pub one-begin-line : OfAnyTwo begin-kinds.ps begin-kinds.r begin.Post (λ κs x y s t. (x ≡ y) × (s .1 .1 .0 .now ≡ t .1 .1 .0 .now))
 one-begin-line κs a x y s t p q = (did-one x y _ _ _ _ (p ∙ sym q), memory-one x y _ _ _ _ (p ∙ sym q))

@@ -1,24 +1,24 @@
 -- Each promise of this crate allows one result for one input: what is read, the image's bytes and the place each equal a definition.
-use mathlib.Core.Path.{_≡_, ap, sym, _∙_}
+use mathlib.Core.Path.{_≡_, sym, _∙_}
+use mathlib.Core.Bool.{Bool}
 use mathlib.Core.List.{List}
 use Prim.Native.Nat.{ℕ}
 use Rattle.geometry.proofs.One.{one}
+use Rattle.image.specs.Test.{imageTest}
 use Rattle.image.specs.Calls.{openedImage}
 use Rattle.reader.specs.declared.Reading.{Reading}
-use Rattle.reader.specs.Read.{readingAt}
+use Rattle.reader.specs.Read.{readingAt, contentAt}
 
 -- of `read_at` and `peek`, and of `first` at the opened image and place 0
 pub read-at-one : (image : List ℕ) (place : ℕ) {r s : Reading} → r ≡ readingAt image place → s ≡ readingAt image place → r ≡ s
 read-at-one image place = one
 
-pub opened-one : (image : List ℕ) {r s : List ℕ} → r ≡ openedImage image → s ≡ openedImage image → r ≡ s
-opened-one image = one
+pub open-one : (image : List ℕ) {a b : List ℕ} {p q c d : ℕ} → (a ≡ openedImage image) × (p ≡ 0) × (c ≡ imageTest image) → (b ≡ openedImage image) × (q ≡ 0) × (d ≡ imageTest image) → (a ≡ b) × (p ≡ q) × (c ≡ d)
+open-one image x y = (one (x .0) (y .0), one (x .1) (y .1), one (x .2) (y .2))
 
-pub open-one : (image : List ℕ) {a b : List ℕ} {p q : ℕ} → (a ≡ openedImage image) × (p ≡ 0) → (b ≡ openedImage image) × (q ≡ 0) → (a ≡ b) × (p ≡ q)
-open-one image x y = (one (x .0) (y .0), one (x .1) (y .1))
-
-pub advance-one : (image : List ℕ) (place : ℕ) {r s : Reading} {a b : List ℕ} {p q : ℕ}
-    → (r ≡ readingAt image place) × (a ≡ image) × (p ≡ r .next) → (s ≡ readingAt image place) × (b ≡ image) × (q ≡ s .next) → (r ≡ s) × (a ≡ b) × (p ≡ q)
-advance-one image place x y =
-    let e = one (x .0) (y .0) in
-    (e, one (x .1) (y .1), x .2 ∙ ap (λ (t : Reading). t .next) e ∙ sym (y .2))
+-- of `advance`: what it tells, and the reader that it leaves
+pub advance-one : (image : List ℕ) (place refusal : ℕ) {f g : Bool} {k l : ℕ} {m n a b : List ℕ} {p q c d : ℕ}
+    → (f ≡ readingAt image place .found) × (k ≡ readingAt image place .leaf) × (m ≡ contentAt image place) × (a ≡ image) × (p ≡ readingAt image place .next) × (c ≡ refusal)
+    → (g ≡ readingAt image place .found) × (l ≡ readingAt image place .leaf) × (n ≡ contentAt image place) × (b ≡ image) × (q ≡ readingAt image place .next) × (d ≡ refusal)
+    → (f ≡ g) × (k ≡ l) × (m ≡ n) × (a ≡ b) × (p ≡ q) × (c ≡ d)
+advance-one image place refusal x y = (x .0 ∙ sym (y .0), one (x .1) (y .1), one (x .2) (y .2), one (x .3) (y .3), one (x .4) (y .4), one (x .5) (y .5))

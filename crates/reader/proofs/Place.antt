@@ -1,14 +1,17 @@
 -- Laws of what stands at a place: the two ways to the end, and a record.
-use mathlib.Core.Path.{_≡_}
+use mathlib.Core.Path.{_≡_, refl, ap, sym, _∙_}
+use mathlib.Core.Bool.{Bool, true, false}
 use mathlib.Core.List.{List, []}
 use Prim.Native.Nat.{ℕ, _+_, _/_, _%_, _≤_, _<_}
 use native.Mathlib.Omega.{arith}
-use borrow.Author.Tests.{le-leb, lt-leb}
-use Rattle.laws.specs.Choice.{either}
-use Rattle.laws.proofs.Refusal.{unless-0, unless-no}
-use Rattle.image.specs.Test.{wholeBlocks, imageBlock, countOf, imageTest}
-use Rattle.image.specs.Calls.{openedImage}
-use Rattle.reader.specs.Read.{atEnd, theEnd, theRecord, readingAt}
+use borrow.Author.Tests.{le-leb, lt-leb, leb-false}
+use lib.Dec.{leb}
+use lib.ListN.{length}
+use Rattle.laws.specs.Choice.{pick, either}
+use Rattle.laws.specs.Bytes.{part}
+use Rattle.image.specs.Test.{wholeBlocks, imageBlock, countOf}
+use Rattle.reader.specs.declared.Reading.{Reading}
+use Rattle.reader.specs.Read.{atEnd, theEnd, contentPlace, theRecord, readingAt, contentAt}
 
 module _ (image : List ℕ) (p : ℕ) where
   pub past-blocks : wholeBlocks image ≤ 1 + p / 7 → readingAt image p ≡ theEnd p
@@ -23,10 +26,38 @@ module _ (image : List ℕ) (p : ℕ) where
   unfolding readingAt atEnd either
   is-record h g = rw (lt-leb (wholeBlocks image) (1 + p / 7) h, lt-leb (countOf (imageBlock image (1 + p / 7))) (p % 7) g)
 
-pub opened-is : (image : List ℕ) → imageTest image ≡ 0 → openedImage image ≡ image
-unfolding openedImage
-opened-is image h = unless-0 image (λ c. []) h
+-- by whether a record was found: where its 64 bytes are, and that the image has them
+module _ (image : List ℕ) (p : ℕ) (r : Reading) (e : r ≡ readingAt image p) where
+  at-end : (b : Bool) → atEnd image p ≡ b → readingAt image p ≡ pick b (theEnd p) (theRecord image p)
+  unfolding readingAt
+  at-end b q = rw q
 
-pub opened-not : (image : List ℕ) → (imageTest image ≡ 0 → ⊥) → openedImage image ≡ []
-unfolding openedImage
-opened-not image h = unless-no {c = imageTest image} image (λ c. []) (omega (arith, h))
+  content-by : (b : Bool) → atEnd image p ≡ b → contentAt image p ≡ pick b [] (part image (contentPlace p) 64)
+  unfolding contentAt
+  content-by b q = rw q
+
+  room : atEnd image p ≡ false → contentPlace p + 64 ≤ length image
+  unfolding atEnd either
+  room q = by-blocks (leb (length image / 512) (1 + p / 7)) refl q
+    where
+      by-blocks : (b : Bool) → leb (length image / 512) (1 + p / 7) ≡ b → either b (leb (countOf (imageBlock image (1 + p / 7))) (p % 7)) ≡ false → contentPlace p + 64 ≤ length image
+      by-blocks true h g = let z : _≡_ {A = ℕ} 0 1 = cc in absurd (omega arith)
+      by-blocks false h g = let k : 1 + p / 7 < length image / 512 = leb-false _ _ h in omega arith
+
+  pub content-found : r .found ≡ true → (r .start ≡ contentPlace p) × (contentPlace p + 64 ≤ length image) × (part image (contentPlace p) 64 ≡ contentAt image p)
+  content-found f = by-end (atEnd image p) refl
+    where
+      by-end : (b : Bool) → atEnd image p ≡ b → (r .start ≡ contentPlace p) × (contentPlace p + 64 ≤ length image) × (part image (contentPlace p) 64 ≡ contentAt image p)
+      by-end true q =
+          let t : false ≡ true = sym (ap (λ (x : Reading). x .found) (e ∙ at-end true q)) ∙ f in
+          let z : _≡_ {A = ℕ} 0 1 = cc in absurd (omega arith)
+      by-end false q = (ap (λ (x : Reading). x .start) (e ∙ at-end false q), room q, sym (content-by false q))
+
+  pub content-none : r .found ≡ false → contentAt image p ≡ []
+  content-none f = by-end (atEnd image p) refl
+    where
+      by-end : (b : Bool) → atEnd image p ≡ b → contentAt image p ≡ []
+      by-end true q = content-by true q
+      by-end false q =
+          let t : true ≡ false = sym (ap (λ (x : Reading). x .found) (e ∙ at-end false q)) ∙ f in
+          let z : _≡_ {A = ℕ} 0 1 = cc in absurd (omega arith)

@@ -1,9 +1,10 @@
 -- 01 "Archive image": "An image is read one record at a time by a reader that keeps the lent image together with its place."
-use mathlib.Core.List.{List}
+use mathlib.Core.List.{List, []}
 use mathlib.Core.Bool.{Bool, true, false}
 use Prim.Native.Nat.{ℕ, _+_, _*_, _/_, _%_}
 use lib.Dec.{leb}
 use Rattle.laws.specs.Choice.{pick, either}
+use Rattle.laws.specs.Bytes.{part}
 use Rattle.image.specs.Test.{wholeBlocks, imageBlock, countOf, recordAt}
 use Rattle.reader.specs.declared.Reading.{Reading}
 
@@ -25,3 +26,7 @@ theRecord image p = record { found = true; leaf = recordAt image p .leaf; start 
 
 unfoldable pub readingAt : List ℕ → ℕ → Reading
 readingAt image p = pick (atEnd image p) (theEnd p) (theRecord image p)
+
+-- "the 64 bytes" of record p, as a part of the image; at the end an empty one
+unfoldable pub contentAt : List ℕ → ℕ → List ℕ
+contentAt image p = pick (atEnd image p) [] (part image (contentPlace p) 64)

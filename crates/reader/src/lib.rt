@@ -1,14 +1,19 @@
 // Reading an image one record at a time: 01 "Archive image", the reader that keeps the lent image together with its place.
 // No public function has a `requires`: an image need not be tested, and a place is any number.
+use geometry::Geometry;
 ghost use mathlib.Core.Path.{_≡_};
 ghost use Prim.Native.Nat.{_+_, _*_, _/_, _%_, _<_};
+ghost use mathlib.Core.List.{[]};
+ghost use Rattle.laws.specs.Refusal.{unless};
+ghost use Rattle.image.specs.Test.{imageTest};
 ghost use Rattle.image.specs.Calls.{openedImage};
-ghost use Rattle.reader.specs.Read.{readingAt};
+ghost use Rattle.reader.specs.Read.{readingAt, contentAt};
 
-// A lent image with the number of its records that were read.
+// A lent image with the number of its records that were read, and what its opening was refused with: 0, 10 or 11.
 pub struct Reader<'a> {
     pub image: &'a [u8],
     pub place: u64,
+    pub refusal: u64,
 }
 
 // What stands at a place: a record's leaf, where its 64 bytes begin in the image, and the place after it; or, not found, the end.
@@ -17,6 +22,13 @@ pub struct Reading {
     pub leaf: u64,
     pub start: u64,
     pub next: u64,
+}
+
+// The next record of a reader: its leaf, and its 64 bytes as a part of the image; or, not found, the end, with an empty part.
+pub struct Record<'a> {
+    pub found: bool,
+    pub leaf: u64,
+    pub content: &'a [u8],
 }
 
 // What stands at a place of an image.
@@ -58,33 +70,52 @@ pub fn read_at(image: &[u8], place: u64) -> Reading
 }
 
 // The image itself where it is accepted, else an empty part of it.
-pub fn opened<'a>(image: &'a [u8]) -> &'a [u8]
-    ensures { λ r. ⌜ now r ≡ openedImage (now (image .entry)) ⌝ }
+fn accepted<'a>(image: &'a [u8], refusal: u64) -> &'a [u8]
+    ensures { λ r. ⌜ now r ≡ unless refusal (now (image .entry)) (λ c. []) ⌝ }
 {
-    if image::image_test(image) == 0 {
+    if refusal == 0 {
         return image;
     }
     &image[0..0]
 }
 
-// A reader of an accepted image, at place 0; refused, of an empty one. The image test names the refusal, 10 or 11.
+// A reader of an accepted image, at place 0; refused, of an empty one. It has the refusal: 0, 10 or 11.
 pub fn open<'a>(image: &'a [u8]) -> Reader<'a>
-    ensures { λ r. ⌜ (now (r .image) ≡ openedImage (now (image .entry))) × (r .place ≡ 0) ⌝ }
+    ensures { λ r. ⌜ (now (r .image) ≡ openedImage (now (image .entry))) × (r .place ≡ 0) × (r .refusal ≡ imageTest (now (image .entry))) ⌝ }
 {
-    let part = opened(image);
+    let refusal = image::image_test(image);
+    let part = accepted(image, refusal);
     Reader {
         image: part,
         place: 0,
+        refusal,
     }
 }
 
-// The next record, and the reader moves on; at the end it stays as it was.
-pub fn advance<'s, 'a>(r: &'s mut Reader<'a>) -> Reading
-    ensures { λ s. ⌜ (s ≡ readingAt (now (now (r .entry) .image)) (now (r .entry) .place)) × (now (r .exit) .image ≡ now (r .entry) .image) × (now (r .exit) .place ≡ s .next) ⌝ }
+// The 64 bytes of the record at a place of an image, as a part of it; an empty part at the end.
+fn content<'a>(image: &'a [u8], place: u64) -> &'a [u8]
+    ensures { λ r. ⌜ now r ≡ contentAt (now (image .entry)) place ⌝ }
 {
+    let found = read_at(image, place);
+    if found.found {
+        let start = found.start as usize;
+        return &image[start..start + Geometry::BLOCK_LEN];
+    }
+    &image[0..0]
+}
+
+// The next record, and the reader moves on; at the end it stays as it was.
+pub fn advance<'s, 'a>(r: &'s mut Reader<'a>) -> Record<'a>
+    ensures { λ s. ⌜ (s .found ≡ readingAt (now (now (r .entry) .image)) (now (r .entry) .place) .found) × (s .leaf ≡ readingAt (now (now (r .entry) .image)) (now (r .entry) .place) .leaf) × (now (s .content) ≡ contentAt (now (now (r .entry) .image)) (now (r .entry) .place)) × (now (r .exit) .image ≡ now (r .entry) .image) × (now (r .exit) .place ≡ readingAt (now (now (r .entry) .image)) (now (r .entry) .place) .next) × (now (r .exit) .refusal ≡ now (r .entry) .refusal) ⌝ }
+{
+    let bytes = content(r.image, r.place);
     let found = read_at(r.image, r.place);
     r.place = found.next;
-    found
+    Record {
+        found: found.found,
+        leaf: found.leaf,
+        content: bytes,
+    }
 }
 
 // What stands next in a reader that is handed over.

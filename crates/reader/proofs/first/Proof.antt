@@ -35,6 +35,7 @@ use denote.Triple.Table.{entered, cited}
 use denote.Triple.Walked.{says, Stays, stay-none-slice, walkOf, goes-none-slice, Walks, ends-at, walked, walk-meets}
 use denote.Exit.{yes}
 use denote.Triple.Clauses.{ensured, lasts}
+use Rattle.image.specs.Test.{imageTest}
 use Rattle.image.specs.Calls.{openedImage}
 use Rattle.reader.specs.Read.{readingAt}
 use Rattle.reader.specs.declared.Reader.{Reader}
@@ -99,8 +100,8 @@ module _ {M : Type 1} (𝓤 : URA M) (H : Heap 𝓤) (A : Atoms 𝓤) (W : Given
       move ! (1 ∷ []) $ fsplit ! $ use1 W (‵ Own ⊛ ‵ Own) (shr-slice-copy 𝓤 H A W (named 0) κ u8 .twice s (v ∷ [])) $ split ! $
       move ! (0 ∷ 2 ∷ []) $ fjoin ! $ move ! (2 ∷ 0 ∷ []) $ use2 W (raw (Open 𝓤 H A mem run .pre to-open)) (qed W ((‵ (flft κ q) ⊛ ‵ ftrue) ∷ ‵ (owns (ShrSlice (named 0) κ u8 ∷ []) (s, tt) (v ∷ [], tt)) ∷ []) ∵ join ! $ frame ! $ done !) $ frame ! $ done !
 
-  open-said : (r : Reader) → ent 𝓤 (ensured 𝓤 H A opn.ended (opn.clauses 𝓤 H A mem run) (κ, tt) (s, tt) tt r) (fact 𝓤 ((now (r .image) ≡ openedImage (now s)) × (r .place ≡ 0)))
-  open-said r = exE 𝓤 _ (λ ws. snd∗ 𝓤 (sem 𝓤 H A (lasts opn.ended (κ, tt) (s, tt) ws)) (fact 𝓤 ((now (r .image) ≡ openedImage (now s)) × (r .place ≡ 0))))
+  open-said : (r : Reader) → ent 𝓤 (ensured 𝓤 H A opn.ended (opn.clauses 𝓤 H A mem run) (κ, tt) (s, tt) tt r) (fact 𝓤 ((now (r .image) ≡ openedImage (now s)) × (r .place ≡ 0) × (r .refusal ≡ imageTest (now s))))
+  open-said r = exE 𝓤 _ (λ ws. snd∗ 𝓤 (sem 𝓤 H A (lasts opn.ended (κ, tt) (s, tt) ws)) (fact 𝓤 ((now (r .image) ≡ openedImage (now s)) × (r .place ≡ 0) × (r .refusal ≡ imageTest (now s)))))
 
   -- the call of `peek`, at the struct r with the machine value u
   abbrev to-peek : Reader → Val → Peek 𝓤 H A mem run .Ghost
@@ -126,7 +127,7 @@ module _ {M : Type 1} (𝓤 : URA M) (H : Heap 𝓤) (A : Atoms 𝓤) (W : Given
         move ! (6 ∷ []) $ use1 W (raw (Open 𝓤 H A mem run .pre to-open) ⊛ ‵ Own) goes-open $ split ! $
         calls-at ! fm (Open 𝓤 H A mem run) known-open to-open (and-then ! (load ! (from ! (stop !)) (look ! 4 refl)) (no-more !)) (λ u.
         use1 W (later (some (λ (r : Reader). ((‵ (flft κ q) ⊛ ‵ ftrue) ⊛ ‵ (B (κ, tt) .own r (u ∷ []))) ⊛ raw (ensured 𝓤 H A opn.ended (opn.clauses 𝓤 H A mem run) (κ, tt) (s, tt) tt r)))) (id⊢ 𝓤 _) $ await ! tt $ pick ! (λ r.
-        split ! $ move ! (1 ∷ []) $ use1 W (raw (fact 𝓤 ((now (r .image) ≡ openedImage (now s)) × (r .place ≡ 0)))) (open-said r) $ heard ! ((now (r .image) ≡ openedImage (now s)) × (r .place ≡ 0)) (λ e. split ! $ move ! (1 ∷ []) $
+        split ! $ move ! (1 ∷ []) $ use1 W (raw (fact 𝓤 ((now (r .image) ≡ openedImage (now s)) × (r .place ≡ 0) × (r .refusal ≡ imageTest (now s))))) (open-said r) $ heard ! ((now (r .image) ≡ openedImage (now s)) × (r .place ≡ 0) × (r .refusal ≡ imageTest (now s))) (λ e. split ! $ move ! (1 ∷ []) $
         -- [what the struct owns; the token; what s owns; room for _2; …; _1; …; room for _0; …]
         peeks ! (B (κ, tt)) (Is (B (κ, tt))) (shows 𝓤 H A (B (κ, tt))) r (u ∷ []) (λ is.
         land ! (from ! (stop !)) (init ! 3 refl (LL.lawful (T.the-type αᵉ) (T′.the-laws αᵉ) 𝓤 H A W .typed r _ is .0)) $

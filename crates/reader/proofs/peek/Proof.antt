@@ -94,7 +94,7 @@ module _ {M : Type 1} (𝓤 : URA M) (H : Heap 𝓤) (A : Atoms 𝓤) (W : Given
   L = T′.the-laws (namedLft 1 0 tt (κ, tt))
 
   abbrev vd : Values (D .parts)
-  vd = (d .image, (d .place, tt))
+  vd = (d .image, (d .place, (d .refusal, tt)))
 
   -- what the callee is passed
   abbrev passed : Vals step.signature (κ, tt)
