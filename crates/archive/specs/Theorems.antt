@@ -40,7 +40,8 @@ withWord image j k x y = splice image (512 * j + 2 * k) (x ∷ y ∷ [])
 -- ".., the version word excepted, is refused": with 10, and the version word is no exception
 abbrev pub WordRefused : List ℕ → Type 0
 WordRefused image = (j k x y : ℕ) → j < wholeBlocks image → k < 254 → x < 256 → y < 256
-    → (x + 256 * y ≡ word (imageBlock image j) k → ⊥) → imageTest (withWord image j k x y) ≡ 10
+    → (x + 256 * y ≡ word (imageBlock image j) k → ⊥)
+    → imageTest (withWord image j k x y) ≡ 10
 
 -- "The place p starts at 0 and counts records read": the place after k reads of an image, and what the read after that gives
 unfoldable pub placeAfter : List ℕ → ℕ → ℕ

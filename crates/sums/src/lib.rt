@@ -117,7 +117,7 @@ fn old_sums(block: &[u8]) -> Sums
     }
 }
 
-// The two sums of every other version, modulo 65,536: both wrap.
+// The two sums of every other version, modulo 65,536: both wrap. Two words a turn: so less of a turn is counting.
 fn new_sums(block: &[u8]) -> Sums
     requires { ⌜ 508 ≤ length (now block) ⌝ }
     ensures { λ r. ⌜ (r .a ≡ sumA 65536 (now (block .entry)) 254) × (r .b ≡ sumB 65536 (now (block .entry)) 254) ⌝ }
@@ -128,7 +128,9 @@ fn new_sums(block: &[u8]) -> Sums
     while k < WORDS {
         a = std::num::wrapping_add_u16(a, word_at(block, k));
         b = std::num::wrapping_add_u16(b, a);
-        k += 1;
+        a = std::num::wrapping_add_u16(a, word_at(block, k + 1));
+        b = std::num::wrapping_add_u16(b, a);
+        k += 2;
     }
     Sums { a: a, b: b }
 }
