@@ -32,7 +32,7 @@ use Rattle.rules.specs.Place.{lineBytes, placeLine, placeHand, Brought, filled,
 use Rattle.rules.specs.Step.{Turned, ends, goes, waits, turnsOf, groupIn, bitIn, letGo, probe, holdsMap, onMap, map, leafRead, putIn, writeUnder1, writeUnder0, newLeaf, leafWrite, finish, holding, byPhase}
 use Rattle.rules.proofs.Words.{held-holder, holder-held}
 use Rattle.rules.proofs.Lined.{at, Has, Held, low, lineOf-is, lineOf-has}
-use Rattle.rules.proofs.Whole.{heldBy, heldLines, heldOf-yes, heldOf-holds, l-least, t-most}
+use Rattle.rules.proofs.Whole.{heldBlocks, heldLines, heldOf-yes, heldOf-holds, l-least, t-most}
 use Rattle.rules.proofs.Placed.{Brings, brings, place-loose, place-memory}
 use Rattle.rules.proofs.Keeps.{Situation, blocks-small, j-lt, j-has, j-holder}
 use Rattle.rules.proofs.Ways.{probe-miss, probe-read, probe-same, probe-other, map-read, map-same, map-create, map-hold, map-wait, map-on, leafRead-is, write1-same, write1-put, write0-same, write0-place, leafWrite-0, leafWrite-1, bytesWith, putIn-empty, putIn-done, finish-is, inLine-is}
@@ -204,7 +204,7 @@ module _ (sit : Situation) (row : Row) (A : Agrees (sit .shape .n) (sit .shape .
             eqs (no d) = rw (probe-other shape u r q w d) (probe-to (probe-goes row found hd u (other-something row u w (λ e. d (g ∙ e)))))
 
   -- bringing in
-  map-brings : Brings shape (blocks n) heldLines (heldBy n ts) r (mapBlock n (u .group)) (bringIn shape (mapBlock n (u .group)) r)
+  map-brings : Brings shape (blocks n) heldLines (heldBlocks n ts) r (mapBlock n (u .group)) (bringIn shape (mapBlock n (u .group)) r)
   map-brings = brings shape r (mapBlock n (u .group)) (sit .lined) few (sit .rows-fit) (sit .hand-lt) map-ok small
 
   map-in : BringsIn (blocks n) l r (mapBlock n (u .group)) (bringIn shape (mapBlock n (u .group)) r)
@@ -213,7 +213,7 @@ module _ (sit : Situation) (row : Row) (A : Agrees (sit .shape .n) (sit .shape .
   leaf-small : leafOf (u .group) < blocks n
   leaf-small = omega (arith, leaf-ok)
 
-  leaf-brings : Brings shape (blocks n) heldLines (heldBy n ts) r (leafOf (u .group)) (bringIn shape (leafOf (u .group)) r)
+  leaf-brings : Brings shape (blocks n) heldLines (heldBlocks n ts) r (leafOf (u .group)) (bringIn shape (leafOf (u .group)) r)
   leaf-brings = brings shape r (leafOf (u .group)) (sit .lined) few (sit .rows-fit) (sit .hand-lt) leaf-small small
 
   leaf-in : BringsIn (blocks n) l r (leafOf (u .group)) (bringIn shape (leafOf (u .group)) r)

@@ -26,8 +26,7 @@ use Rattle.tracker.specs.declared.Phase.the-variants.{Idle, Probe, Map, Leaf, S
 use Rattle.tracker.specs.declared.Tracker.{Tracker}
 use Rattle.tracker.specs.Tracker.{idle, isIdle, isIdleAt, holdsAt, goesTo, counted}
 use Rattle.tracker.specs.Answer.{Said, ok, wait, moved, read, done, same, no as refusal}
-use Rattle.line.specs.Word.{used, blockOf, holder, held, word, lineBlocks, marks}
-use Rattle.line.specs.Word as Word
+use Rattle.line.specs.Word.{used, blockOf, holder, held, heldBy, word, lineBlocks, marks}
 use Rattle.line.specs.Find.{lineOf}
 use Rattle.rules.specs.State.{Rows, trackerAt}
 use Rattle.rules.specs.Whole.{limits, mapBlock, phaseWhole}
@@ -36,7 +35,7 @@ use Rattle.rules.specs.Step.{Turned, ends, goes, waits, bitIn, groupIn, 
 use Rattle.line.proofs.Words.{blockOf-word, free-used, holder-word, used-word}
 use Rattle.rules.proofs.Words.{blockOf-heldBy, holder-free, holder-heldBy, loose-holder, used-heldBy}
 use Rattle.rules.proofs.Lined.{at, Has, Held, Lined, low, lineOf-is, lineOf-has, lineOf-none, loose-lined, held-lined, let-go-lined, same-holds}
-use Rattle.rules.proofs.Whole.{heldOf, heldBy, heldLines, LinedBy, heldOf-yes, heldOf-no, heldOf-is, Tracked, n-most, t-most, l-least}
+use Rattle.rules.proofs.Whole.{heldOf, heldBlocks, heldLines, LinedBy, heldOf-yes, heldOf-no, heldOf-is, Tracked, n-most, t-most, l-least}
 use Rattle.rules.proofs.Placed.{Shaped, unmoved, moved-to, Brings, brings, place-loose, place-hand, place-memory-length, fill-lined, fill-keeps}
 use Rattle.rules.proofs.Ways.{probe-miss, probe-read, probe-same, probe-other, map-read, map-same, map-create, map-hold, map-wait, map-on, leafRead-is, write1-same, write1-put, write0-same, write0-line, write0-place, leafWrite-0, leafWrite-1, bytesWith, putIn-empty, putIn-done, finish-is, inLine-is}
 
@@ -115,7 +114,7 @@ module _ (shape : Shape) (lim : limits shape ≡ true) where
   map-block g q = omega (arith, mapBlockOf-lt (shape .n) (leafOf g) (leafOf-lt (shape .n) g q))
 
 -- a line that has a leaf is held by nobody: map blocks come after the leaves
-pub leaf-loose : {B l t : ℕ} (n : ℕ) (ts : List Tracker) {lines : List ℕ} → Lined B l t heldLines (heldBy n ts) lines → (i b : ℕ) → Has lines i b → b < n → holder (at lines i) ≡ 0
+pub leaf-loose : {B l t : ℕ} (n : ℕ) (ts : List Tracker) {lines : List ℕ} → Lined B l t heldLines (heldBlocks n ts) lines → (i b : ℕ) → Has lines i b → b < n → holder (at lines i) ≡ 0
 leaf-loose n ts {lines} v i b h q = go (ℕ-discrete (holder (at lines i)) 0)
   where
     go : Dec (holder (at lines i) ≡ 0) → holder (at lines i) ≡ 0
@@ -216,7 +215,7 @@ module _ (sit : Situation) where
   comes-to-hold {ls} i w h z f =
       let bl : blockOf (at ls i) < lineBlocks = rw (h .is-block) (omega (arith, small, w .apart .exists i _ h)) in
       let x1 : x + 1 < marks = omega (arith, t-most shape (sit .limits-ok)) in
-      held-lined w i (Word.heldBy (at ls i) (x + 1)) (low (w .apart) i _ h) (heldBy n (set ts x (goesTo u Leaf))) x 0 (sit .x-lt) (omega arith) (λ y k kl q. heldOf-other n ts x y (goesTo u Leaf) (λ e. q e (omega arith)))
+      held-lined w i (heldBy (at ls i) (x + 1)) (low (w .apart) i _ h) (heldBlocks n (set ts x (goesTo u Leaf))) x 0 (sit .x-lt) (omega arith) (λ y k kl q. heldOf-other n ts x y (goesTo u Leaf) (λ e. q e (omega arith)))
       (mapBlock n (u .group)) h (used-heldBy (at ls i) (x + 1) bl x1) (blockOf-heldBy (at ls i) (x + 1) bl x1 ∙ h .is-block) z (holder-heldBy (at ls i) (x + 1) bl x1)
       (was-free f) (now-held (goesTo u Leaf) refl)
 
@@ -225,14 +224,14 @@ module _ (sit : Situation) where
       → used w' ≡ true → blockOf w' ≡ mapBlock n (u .group) → holder w' ≡ 0
       → LinedBy shape (set ts x idle) (set ls j w')
   lets-go {ls} j w' w h z a b c =
-      let-go-lined w j w' (low (w .apart) j _ h) (heldBy n (set ts x idle)) x 0 (sit .x-lt) (omega arith) (λ y k kl q. heldOf-other n ts x y idle (λ e. q e (omega arith)))
+      let-go-lined w j w' (low (w .apart) j _ h) (heldBlocks n (set ts x idle)) x 0 (sit .x-lt) (omega arith) (λ y k kl q. heldOf-other n ts x y idle (λ e. q e (omega arith)))
       (mapBlock n (u .group)) h a b z c (λ k kl e. omega arith) (now-free idle refl)
 
   lets-go-word : {ls : List ℕ} (j : ℕ) → LinedBy shape ts ls → Has ls j (mapBlock n (u .group)) → holder (at ls j) ≡ x + 1
       → LinedBy shape (set ts x idle) (letGo false ls j)
   lets-go-word {ls} j w h z =
       let bl : blockOf (at ls j) < lineBlocks = rw (h .is-block) (omega (arith, small, w .apart .exists j _ h)) in
-      lets-go j (Word.heldBy (at ls j) 0) w h z (used-heldBy (at ls j) 0 bl (omega arith)) (blockOf-heldBy (at ls j) 0 bl (omega arith) ∙ h .is-block) (holder-heldBy (at ls j) 0 bl (omega arith))
+      lets-go j (heldBy (at ls j) 0) w h z (used-heldBy (at ls j) 0 bl (omega arith)) (blockOf-heldBy (at ls j) 0 bl (omega arith) ∙ h .is-block) (holder-heldBy (at ls j) 0 bl (omega arith))
 
   idle-tracked : Tracked n t (set ts x idle)
   idle-tracked = tracked-set n t ts x idle (sit .tracked) (sit .x-lt) (λ e. absurd (not-both-ways refl e)) refl
@@ -263,13 +262,13 @@ module _ (sit : Situation) where
           eqs (no d) = rw (probe-other shape u r q w d) (to-map h)
 
   -- the map block is brought in, held by nobody
-  map-brings : Brings shape (blocks n) heldLines (heldBy n ts) r (mapBlock n (u .group)) (bringIn shape (mapBlock n (u .group)) r)
+  map-brings : Brings shape (blocks n) heldLines (heldBlocks n ts) r (mapBlock n (u .group)) (bringIn shape (mapBlock n (u .group)) r)
   map-brings = brings shape r (mapBlock n (u .group)) (sit .lined) few (sit .rows-fit) (sit .hand-lt) (map-block shape (sit .limits-ok) (u .group) group-ok) small
 
-  leaf-brings : Brings shape (blocks n) heldLines (heldBy n ts) r (leafOf (u .group)) (bringIn shape (leafOf (u .group)) r)
+  leaf-brings : Brings shape (blocks n) heldLines (heldBlocks n ts) r (leafOf (u .group)) (bringIn shape (leafOf (u .group)) r)
   leaf-brings = brings shape r (leafOf (u .group)) (sit .lined) few (sit .rows-fit) (sit .hand-lt) (leaf-block shape (sit .limits-ok) (u .group) group-ok) small
 
-  module _ (m : u .phase ≡ Map) (b : Brought) (f : Brings shape (blocks n) heldLines (heldBy n ts) r (mapBlock n (u .group)) b) (z : holder (at (b .rows .lines) (b .line)) ≡ 0) where
+  module _ (m : u .phase ≡ Map) (b : Brought) (f : Brings shape (blocks n) heldLines (heldBlocks n ts) r (mapBlock n (u .group)) b) (z : holder (at (b .rows .lines) (b .line)) ≡ 0) where
     map-free : holdsAt (u .phase) ≡ false
     map-free = rw m
 

@@ -32,16 +32,16 @@ use Rattle.rules.proofs.Lined.{at, Has, Held, Lined, low, lineOf-is, li
 unfoldable pub heldOf : ℕ → List Tracker → ℕ → ℕ
 heldOf n ts x = pick (holdsAt (trackerAt ts x .phase)) (suc (mapBlock n (trackerAt ts x .group))) 0
 
--- a tracker holds one block at a time, and so one line
+-- a tracker holds one block at a time, and so one line; the k-th of the blocks that it holds is that one
 abbrev pub heldLines : ℕ
 heldLines = 1
 
--- the lines of a state with this shape and these trackers: each names its holder, which holds its block
-abbrev pub heldBy : ℕ → List Tracker → ℕ → ℕ → ℕ
-heldBy n ts x k = heldOf n ts x
+abbrev pub heldBlocks : ℕ → List Tracker → ℕ → ℕ → ℕ
+heldBlocks n ts x k = heldOf n ts x
 
+-- the lines of a state with this shape and these trackers: each names its holder, which holds its block
 abbrev pub LinedBy : Shape → List Tracker → List ℕ → Type 0
-LinedBy shape ts lines = Lined (blocks (shape .n)) (shape .l) (shape .t) heldLines (heldBy (shape .n) ts) lines
+LinedBy shape ts lines = Lined (blocks (shape .n)) (shape .l) (shape .t) heldLines (heldBlocks (shape .n) ts) lines
 
 -- the trackers: those from t on are idle, busy groups exist, phases are as they must be
 pub record Tracked (n t : ℕ) (ts : List Tracker) : Type 0 where
