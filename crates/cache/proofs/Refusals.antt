@@ -26,7 +26,7 @@ use Rattle.rules.specs.Whole.{limits, whole}
 use Rattle.rules.specs.Place.{rowsFit, drained}
 use Rattle.rules.specs.Step.{turnOf}
 use Rattle.rules.specs.Calls.{refused, accepted, freshTests, fresh, openTests, opened, stateTests, withTracker, issueTests, issueNo, issue, stepped, stepTests, stepNo, step, allIdle, drainTests, drainNo, withLines, drain, showTests, showNo, shownBit, show}
-use Rattle.lines.specs.Lines.{rows, drainedRows}
+use Rattle.placing.specs.Lines.{rows, drainedRows}
 use Rattle.rules.proofs.Whole.{n-most, t-most, l-most, whole-facts}
 use Rattle.rules.proofs.Calls.{bytes-right, memory-right}
 use Rattle.rules.proofs.Begun.{fresh-free, fresh-refused as refuses-fresh, fresh-accepted as accepts-fresh, open-refused as refuses-open, open-accepted as accepts-open}

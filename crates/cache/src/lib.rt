@@ -5,7 +5,7 @@ use geometry::Shape;
 use tracker::Access;
 use tracker::Answer;
 use tracker::Tracker;
-use turned::Turned;
+use outcome::Turned;
 ghost use mathlib.Core.Path.{_≡_};
 ghost use mathlib.Core.Bool.{true};
 ghost use Prim.Native.Nat.{_≤_};
@@ -16,8 +16,8 @@ ghost use Rattle.rules.specs.State.{begun, zeroState};
 ghost use Rattle.rules.specs.Whole.{limits, whole};
 ghost use Rattle.rules.specs.Step.{turnOf};
 ghost use Rattle.rules.specs.Calls.{fresh, opened, issueNo, issue, stepNo, step, drainNo, drain, showNo, shownBit, show};
-ghost use Rattle.lines.specs.Lines.{rows, drainedRows};
-ghost use Rattle.turned.specs.Steps.{turned};
+ghost use Rattle.placing.specs.Lines.{rows, drainedRows};
+ghost use Rattle.outcome.specs.Steps.{turned};
 ghost use Rattle.cache.specs.Seen.{seen, unready, unfit, did};
 
 // The shape, with L lines and T trackers: a line is a number (`line`), 0 where it is free; lines L and up, trackers T and up are not used.
@@ -37,7 +37,7 @@ pub struct Out {
 fn drain_row(shape: Shape, row: &mut [u32; Geometry::MOST_LINES], bytes: &[u8], memory: &mut [u8])
     ensures { λ _. ⌜ rows (now (row .exit)) (now (bytes .entry)) (now (memory .exit)) ≡ drainedRows shape (rows (now (row .entry)) (now (bytes .entry)) (now (memory .entry))) ⌝ }
 {
-    lines::drain(shape, row, bytes, memory);
+    placing::drain(shape, row, bytes, memory);
 }
 
 // The row of lines, lent on as a slice for a step.

@@ -13,7 +13,7 @@ use Rattle.tracker.specs.declared.Access.{Access}
 use Rattle.laws.proofs.Refusal.{refusal-hold, unless-by}
 use Rattle.rules.specs.Calls.{issueTests, stepTests}
 use Rattle.laws.specs.Choice.{pick, both, implies, no as negated}
-use Rattle.laws.proofs.Choice.{not-both-ways}
+use Rattle.laws.proofs.Choice.{not-both-ways, pick-by}
 use Rattle.geometry.specs.TagMemory.{leafOf, groups}
 use Rattle.tracker.specs.declared.Phase.{Phase}
 use Rattle.tracker.specs.declared.Phase.the-variants.{Idle, Probe, Map, Leaf, Set, Clear}
@@ -30,10 +30,6 @@ use Rattle.demands.specs.Row.{Row, after, told}
 use Rattle.demands.specs.Demand2.{Entry}
 use Rattle.demands.proofs.Watch.{Watch, takenBy, closedBy, closed, watchBy, watched}
 use Rattle.demands.proofs.Log.{Move, begins, goes-on, ends, neither, moveOf, Pending, none, begun, past, Inv, not-begins, not-ends, goes-not-begins, goes-not-ends, put-same, put-other, passes, begins-now, ends-now, takes-now}
-
-pub pick-by : {A : Type 0} (P : A → Type 0) (b : Bool) {p q : A} → (b ≡ true → P p) → (b ≡ false → P q) → P (pick b p q)
-pick-by P true h k = h refl
-pick-by P false h k = k refl
 
 -- what a step says, as the log needs it
 abbrev ofStep : ℕ → Said → Move

@@ -7,7 +7,7 @@ use Prim.Native.Nat.{ℕ}
 use borrow.Author.Tests.{eq-eqb, not-true}
 use Rattle.laws.specs.Choice.{either}
 use Rattle.laws.specs.Refusal.{refusal}
-use Rattle.laws.proofs.Choice.{not-both-ways, both-true}
+use Rattle.laws.proofs.Choice.{not-both-ways, both-true, either-left, either-right}
 use Rattle.laws.proofs.Refusal.{refused-or-not}
 use Rattle.laws.proofs.Scan.{all-at}
 use Rattle.tracker.specs.declared.Access.{Access}
@@ -32,15 +32,6 @@ use Rattle.demands.proofs.Noted.{Turn, went, over, step-turn}
 use Rattle.demands.proofs.Start.{begun}
 
 -- an access to the group of a busy tracker, one of the two a write
-either-left : (a b : Bool) → a ≡ true → either a b ≡ true
-unfolding either
-either-left a b e = rw e
-
-either-right : (a b : Bool) → b ≡ true → either a b ≡ true
-unfolding either
-either-right true b e = refl
-either-right false b e = e
-
 meets-by : (a : Access) (u : Tracker) → isIdle u ≡ false → u .group ≡ a .group → either (a .write) (u .write) ≡ true → meets a u ≡ true
 unfolding meets
 meets-by a u b e w = both-true _ _ (both-true _ _ (ap not b) (eq-eqb _ _ e)) w

@@ -8,7 +8,7 @@ use native.Mathlib.Omega.{arith}
 use lib.Dec.{eqb, ltb}
 use lib.ListN.{getD, set}
 use Rattle.laws.specs.Choice.{pick, both}
-use Rattle.laws.proofs.Choice.{not-both-ways}
+use Rattle.laws.proofs.Choice.{not-both-ways, pick-by}
 use Rattle.laws.proofs.Refusal.{unless-by}
 use Rattle.laws.proofs.Scan.{all-at}
 use Rattle.laws.proofs.Splice.{lt-or-ge}
@@ -41,7 +41,6 @@ use Rattle.circle.proofs.Link.{Anew, anew, each}
 use Rattle.circle.proofs.Calls.{bare, Outcome, outcome}
 use Rattle.circle.proofs.Calls as Calls
 use Rattle.demands.specs.Event.{Event, event, events, writtenBy, writtenFrom}
-use Rattle.demands.proofs.Machine.{pick-by}
 use Rattle.demands.proofs.Noted.{Turn, went, over, event-bare, step-turn}
 
 -- no line is changed

@@ -9,7 +9,7 @@ use lib.ListN.{length, take, length-append}
 use borrow.Author.Tests.{leb-true}
 use Rattle.laws.specs.Choice.{both}
 use Rattle.laws.specs.Bytes.{part, splice}
-use Rattle.laws.proofs.Choice.{both-left, both-right, both-true}
+use Rattle.laws.proofs.Choice.{both-left, both-right, both-true, pick-by}
 use Rattle.laws.proofs.Writes.{take-splice}
 use Rattle.tracker.specs.Answer.{Said, no}
 use Rattle.text.specs.Text.{lineText}
@@ -29,7 +29,6 @@ use Rattle.play.proofs.Texts.{plays-becomes}
 use Rattle.demands.specs.Event.{events}
 use Rattle.demands.specs.Demand2.{OneRow}
 use Rattle.demands.specs.Replay.{callFor, callsFor, linesSay, Replays, begun, chunk, ReplayPrints}
-use Rattle.demands.proofs.Machine.{pick-by}
 use Rattle.demands.proofs.Start.{Begun}
 use Rattle.demands.proofs.Start as Start
 use Rattle.demands.proofs.Watch.{logged, logOf}

@@ -4,7 +4,7 @@ use mathlib.Core.Bool.{Bool, true, false, not}
 use mathlib.Core.Logic.{_⊎_, inl, inr}
 use Prim.Native.Nat.{ℕ}
 use native.Mathlib.Omega.{arith}
-use Rattle.laws.specs.Choice.{both, either, implies, no}
+use Rattle.laws.specs.Choice.{pick, both, either, implies, no}
 
 pub not-both-ways : {b : Bool} → b ≡ true → b ≡ false → ⊥
 not-both-ways {b} p q = let z : _≡_ {A = ℕ} 0 1 = cc in omega arith
@@ -12,6 +12,11 @@ not-both-ways {b} p q = let z : _≡_ {A = ℕ} 0 1 = cc in omega arith
 pub true-or-false : (b : Bool) → (b ≡ true) ⊎ (b ≡ false)
 true-or-false true = inl refl
 true-or-false false = inr refl
+
+-- what holds of both holds of the one that is picked
+pub pick-by : {A : Type 0} (P : A → Type 0) (b : Bool) {p q : A} → (b ≡ true → P p) → (b ≡ false → P q) → P (pick b p q)
+pick-by P true h k = h refl
+pick-by P false h k = k refl
 
 module _ (a b : Bool) where
   pub both-true : a ≡ true → b ≡ true → both a b ≡ true
@@ -40,6 +45,15 @@ pub both-right : (a b : Bool) → both a b ≡ true → b ≡ true
 unfolding both
 both-right true b h = h
 both-right false b h = absurd (not-both-ways h refl)
+
+pub either-left : (a b : Bool) → a ≡ true → either a b ≡ true
+unfolding either
+either-left a b e = rw e
+
+pub either-right : (a b : Bool) → b ≡ true → either a b ≡ true
+unfolding either
+either-right true b e = refl
+either-right false b e = e
 
 pub either-true : (a b : Bool) → either a b ≡ true → (a ≡ true) ⊎ (b ≡ true)
 unfolding either

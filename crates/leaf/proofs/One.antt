@@ -7,10 +7,10 @@ use Rattle.geometry.specs.declared.Shape.{Shape}
 use Rattle.tracker.specs.declared.Tracker.{Tracker}
 use Rattle.rules.specs.State.{Rows}
 use Rattle.rules.specs.Step.{letGo}
-use Rattle.lines.specs.Lines.{rows}
-use Rattle.turned.specs.declared.Turned as left
-use Rattle.turned.specs.Steps.{turned}
-use Rattle.turned.proofs.One.{turned-one, rows-one}
+use Rattle.placing.specs.Lines.{rows}
+use Rattle.outcome.specs.declared.Turned as left
+use Rattle.outcome.specs.Steps.{turned}
+use Rattle.outcome.proofs.One.{turned-one, rows-one}
 use Rattle.leaf.specs.Leaf.{probeOn, leafOn}
 
 pub probe-one : (shape : Shape) (t : Tracker) (lines bytes : List ℕ) (r s : left.Turned)

@@ -22,8 +22,8 @@ use Rattle.line.specs.Find.{lineOf}
 use Rattle.rules.specs.State.{Rows}
 use Rattle.rules.specs.Place.{lineBytes, rowsFit, filled, bringIn}
 use Rattle.rules.specs.Step.{ends, goes, refuses, turnsOf, groupIn, letGo, newLeaf, probe, leafRead, putIn, writeUnder1, writeUnder0}
-use Rattle.lines.specs.Lines.{rows, placed}
-use Rattle.lines.proofs.Ways.{left, line-is, shape-is, rows-are, memory-is, placed-same, bringIn-same, fit-lines, fit-bytes}
+use Rattle.placing.specs.Lines.{rows, placed}
+use Rattle.placing.proofs.Ways.{left, line-is, shape-is, rows-are, memory-is, placed-same, bringIn-same, fit-lines, fit-bytes}
 use Rattle.leaf.specs.Leaf.{probeOn, leafOn}
 
 -- Probe

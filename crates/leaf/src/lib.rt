@@ -4,7 +4,7 @@ use geometry::Geometry;
 use geometry::Shape;
 use tracker::Phase;
 use tracker::Tracker;
-use turned::Turned;
+use outcome::Turned;
 ghost use mathlib.Core.Path.{_≡_};
 ghost use mathlib.Core.List.{List};
 ghost use mathlib.Core.Bool.{true};
@@ -17,8 +17,8 @@ ghost use Rattle.tracker.specs.declared.Phase.the-variants.{Set};
 ghost use Rattle.line.specs.Word.{blockOf, word, heldBy};
 ghost use Rattle.rules.specs.Place.{rowsFit, filled};
 ghost use Rattle.rules.specs.Step.{goes, groupIn, letGo, newLeaf, leafRead, putIn, writeUnder1, writeUnder0};
-ghost use Rattle.lines.specs.Lines.{rows};
-ghost use Rattle.turned.specs.Steps.{turned, OnAnyMemory};
+ghost use Rattle.placing.specs.Lines.{rows};
+ghost use Rattle.outcome.specs.Steps.{turned, OnAnyMemory};
 ghost use Rattle.leaf.specs.Leaf.{probeOn, leafOn};
 
 // Group g in line i.
@@ -55,22 +55,22 @@ pub fn probe(shape: Shape, t: Tracker, lines: &[u32], bytes: &[u8]) -> Turned
     ensures { λ r. ⌜ OnAnyMemory (λ q. probeOn shape t q) r (now (lines .entry)) (now (bytes .entry)) (now (lines .entry)) (now (bytes .entry)) ⌝ }
 {
     let l = shape.l;
-    if !lines::rows_fit(l, lines, bytes) {
-        return turned::refuses(4, shape, t);
+    if !placing::rows_fit(l, lines, bytes) {
+        return outcome::refuses(4, shape, t);
     }
     let g = t.group;
     let i = line::line_of(lines, l, Geometry::leaf_of(g));
     if l <= i {
-        return turned::goes(shape, t, Phase::Map);
+        return outcome::goes(shape, t, Phase::Map);
     }
     let v = group_in(bytes, i, g);
     if !t.write {
-        return turned::ends_read(shape, t, v);
+        return outcome::ends_read(shape, t, v);
     }
     if v == t.value {
-        return turned::ends_same(shape, t);
+        return outcome::ends_same(shape, t);
     }
-    turned::goes(shape, t, Phase::Map)
+    outcome::goes(shape, t, Phase::Map)
 }
 
 // Leaf, read. Bring in the leaf, end with the group, let go. The map block is in line j.
@@ -87,14 +87,14 @@ fn leaf_read(
 {
     let g = t.group;
     let l = shape.l;
-    let spot = lines::bring_in(shape, Geometry::leaf_of(g), lines, bytes, memory);
+    let spot = placing::bring_in(shape, Geometry::leaf_of(g), lines, bytes, memory);
     let i = spot.line;
     if l <= i {
-        return turned::refuses(4, shape, t);
+        return outcome::refuses(4, shape, t);
     }
     let v = group_in(bytes, i, g);
     let_go(lines, j, false);
-    turned::ends_read(spot.shape, t, v)
+    outcome::ends_read(spot.shape, t, v)
 }
 
 // Put v in, the leaf in line i. All 64 bytes now zero: the line is made free, on to Finish (clear). Else the line is changed, end "done", let go.
@@ -114,11 +114,11 @@ fn put_in(
     block::put_group(bytes, at + Geometry::byte_of(g), t.value);
     if block::all_zero(&bytes[at..at + Geometry::BLOCK_LEN]) {
         lines[i] = 0;
-        return turned::goes(shape, t, Phase::Clear);
+        return outcome::goes(shape, t, Phase::Clear);
     }
     lines[i] = line::word(Geometry::leaf_of(g), true, 0);
     let_go(lines, j, false);
-    turned::ends_done(shape, t)
+    outcome::ends_done(shape, t)
 }
 
 // Leaf, write, under bit 1. Bring in the leaf; group equal to v: end "same", let go. Else put v in.
@@ -135,14 +135,14 @@ fn write_under_1(
 {
     let g = t.group;
     let l = shape.l;
-    let spot = lines::bring_in(shape, Geometry::leaf_of(g), lines, bytes, memory);
+    let spot = placing::bring_in(shape, Geometry::leaf_of(g), lines, bytes, memory);
     let i = spot.line;
     if l <= i {
-        return turned::refuses(4, shape, t);
+        return outcome::refuses(4, shape, t);
     }
     if group_in(bytes, i, g) == t.value {
         let_go(lines, j, false);
-        return turned::ends_same(spot.shape, t);
+        return outcome::ends_same(spot.shape, t);
     }
     put_in(j, i, spot.shape, t, lines, bytes)
 }
@@ -164,7 +164,7 @@ fn create(i: usize, shape: Shape, t: Tracker, lines: &mut [u32], bytes: &mut [u8
     let leaf = new_leaf(t);
     lines[i] = line::word(Geometry::leaf_of(t.group), true, 0);
     block::write_block(bytes, Geometry::BLOCK_LEN * i, &leaf);
-    turned::goes(shape, t, Phase::Set)
+    outcome::goes(shape, t, Phase::Set)
 }
 
 // Leaf, write, under bit 0. Group equal to v: end "same", let go. Else the leaf goes into its line if it has one, else is placed.
@@ -181,17 +181,17 @@ fn write_under_0(
 {
     if t.value == 0 {
         let_go(lines, j, false);
-        return turned::ends_same(shape, t);
+        return outcome::ends_same(shape, t);
     }
     let l = shape.l;
     let i = line::line_of(lines, l, Geometry::leaf_of(t.group));
     if i < l {
         return create(i, shape, t, lines, bytes);
     }
-    let spot = lines::place(shape, lines, bytes, memory);
+    let spot = placing::place(shape, lines, bytes, memory);
     let at = spot.line;
     if l <= at {
-        return turned::refuses(4, shape, t);
+        return outcome::refuses(4, shape, t);
     }
     create(at, spot.shape, t, lines, bytes)
 }
@@ -203,7 +203,7 @@ fn in_rows(l: usize, j: usize, lines: &[u32], bytes: &[u8]) -> bool
     if l <= j {
         return false;
     }
-    lines::rows_fit(l, lines, bytes)
+    placing::rows_fit(l, lines, bytes)
 }
 
 // Leaf, by the bit that was read in the held map line, which is line j.
@@ -219,7 +219,7 @@ pub fn leaf(
     ensures { λ r. ⌜ turned r (now (lines .exit)) (now (bytes .exit)) (now (memory .exit)) ≡ leafOn shape j bit t (rows (now (lines .entry)) (now (bytes .entry)) (now (memory .entry))) ⌝ }
 {
     if !in_rows(shape.l, j, lines, bytes) {
-        return turned::refuses(4, shape, t);
+        return outcome::refuses(4, shape, t);
     }
     if !t.write {
         return leaf_read(shape, j, t, lines, bytes, memory);

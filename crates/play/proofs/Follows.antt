@@ -23,7 +23,7 @@ use Rattle.rules.specs.Step.{Turned, refuses, turnOf}
 use Rattle.rules.specs.Calls.{refused, issueTests, issue, stepTests, step, drain, stepped, allIdle}
 use Rattle.rules.specs.Run.{does}
 use Rattle.rules.proofs.Calls.{Sound, rows-fit, refused-sound, step-is, step-refused, step-free, step-kept, issue-refused, issue-accepted, issue-free, issue-kept, drains as drains-all, drain-is, drain-busy, drain-kept}
-use Rattle.lines.specs.Lines.{rows, drainedRows}
+use Rattle.placing.specs.Lines.{rows, drainedRows}
 use Rattle.play.specs.Play.{follows}
 use Rattle.play.specs.Turn.{named, accepts, issueTurn, stepTurn, drainTurn, lineTurn}
 

@@ -22,9 +22,9 @@ use Rattle.rules.specs.Calls.{Out, stepped}
 use Rattle.rules.specs.Run.{Kept}
 use Rattle.rules.proofs.Calls.{Sound}
 use Rattle.rules.proofs.Whole.{whole-facts, t-least, t-most}
-use Rattle.lines.specs.Lines.{rows}
-use Rattle.turned.specs.declared.Turned as left
-use Rattle.turned.specs.Steps.{turned}
+use Rattle.placing.specs.Lines.{rows}
+use Rattle.outcome.specs.declared.Turned as left
+use Rattle.outcome.specs.Steps.{turned}
 use Rattle.play.specs.Turn.{named, lineTurn}
 use Rattle.play.specs.Play.{Played, follows, refuses, lineEnd, goesOn, after, lineDone, played}
 use Rattle.play.proofs.Chunk.{goesOn-end, taken-more, played-stops, played-turn}

@@ -28,7 +28,7 @@ use Rattle.rules.specs.Whole.{limits, whole}
 use Rattle.rules.specs.Step.{refuses, turnOf}
 use Rattle.rules.specs.Calls.{Out, refused, fresh, issueTests, stepTests, drainTests}
 use Rattle.rules.specs.Run.{Kept}
-use Rattle.lines.specs.Lines.{drainedRows}
+use Rattle.placing.specs.Lines.{drainedRows}
 use Rattle.play.specs.Turn.{named, accepts, issueTurn, stepTurn, drainTurn, lineTurn}
 use Rattle.play.specs.Play.{replayLeaves, begins, follows, lineEnd, starts, played, plays}
 

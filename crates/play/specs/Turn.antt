@@ -14,7 +14,7 @@ use Rattle.script.specs.Script.{Asks, news, reads, writes, steps, drains, bad}
 use Rattle.rules.specs.State.{Rows, trackerAt}
 use Rattle.rules.specs.Step.{Turned, refuses, turnOf}
 use Rattle.rules.specs.Calls.{issueTests, stepTests, drainTests}
-use Rattle.lines.specs.Lines.{drainedRows}
+use Rattle.placing.specs.Lines.{drainedRows}
 
 -- the tracker, of t, that a line names; 0 where it names none
 unfoldable pub named : (t : ℕ) → Asks → ℕ

@@ -9,7 +9,7 @@ use script::Command;
 use tracker::Access;
 use tracker::Answer;
 use tracker::Tracker;
-use turned::Turned;
+use outcome::Turned;
 ghost use mathlib.Core.Path.{_≡_};
 ghost use mathlib.Core.List.{List};
 ghost use mathlib.Core.Bool.{true};
@@ -25,8 +25,8 @@ ghost use Rattle.rules.specs.State.{lengthsRight, zeroState};
 ghost use Rattle.rules.specs.Whole.{whole};
 ghost use Rattle.rules.specs.Calls.{refused};
 ghost use Rattle.rules.specs.Run.{Kept};
-ghost use Rattle.lines.specs.Lines.{rows};
-ghost use Rattle.turned.specs.Steps.{turned};
+ghost use Rattle.placing.specs.Lines.{rows};
+ghost use Rattle.outcome.specs.Steps.{turned};
 ghost use Rattle.play.specs.Turn.{named, issueTurn, stepTurn, drainTurn, lineTurn};
 ghost use Rattle.play.specs.Play.{begins, lineEnd, follows, starts, played, plays, refusesAll};
 ghost use Rattle.cache.specs.Seen.{seen, did};
@@ -62,7 +62,7 @@ fn issue(
 {
     let c = whole::issue_refusal(shape, x as u64, access, trackers);
     if 0 < c {
-        return turned::refuses(c, shape, u);
+        return outcome::refuses(c, shape, u);
     }
     Turned {
         shape,
@@ -85,7 +85,7 @@ fn one_step(
 {
     let c = whole::step_refusal(shape, x as u64, trackers);
     if 0 < c {
-        return turned::refuses(c, shape, u);
+        return outcome::refuses(c, shape, u);
     }
     step::turn(shape, x, u, lines, bytes, memory)
 }
@@ -103,9 +103,9 @@ fn drain(
 {
     let c = whole::drain_refusal(shape, trackers);
     if 0 < c {
-        return turned::refuses(c, shape, u);
+        return outcome::refuses(c, shape, u);
     }
-    lines::drain(shape, lines, bytes, memory);
+    placing::drain(shape, lines, bytes, memory);
     Turned {
         shape,
         tracker: u,
@@ -126,14 +126,14 @@ fn follow(
     ensures { λ r. ⌜ turned r (now (lines .exit)) (now (bytes .exit)) (now (memory .exit)) ≡ lineTurn shape (asks c) trackers u (rows (now (lines .entry)) (now (bytes .entry)) (now (memory .entry))) ⌝ }
 {
     match c {
-        Command::New(a, b, d) => turned::refuses(12, shape, u),
+        Command::New(a, b, d) => outcome::refuses(12, shape, u),
         Command::Read(x, g, bottom) => issue(shape, x, Access::read_of(bottom, g), trackers, u),
         Command::Write(x, g, v, bottom) => {
             issue(shape, x, Access::write_of(bottom, g, v), trackers, u)
         }
         Command::Step(x) => one_step(shape, x, trackers, u, lines, bytes, memory),
         Command::Drain => drain(shape, trackers, u, lines, bytes, memory),
-        Command::Bad => turned::refuses(12, shape, u),
+        Command::Bad => outcome::refuses(12, shape, u),
     }
 }
 

@@ -7,10 +7,10 @@ use Rattle.geometry.specs.declared.Shape.{Shape}
 use Rattle.tracker.specs.declared.Tracker.{Tracker}
 use Rattle.rules.specs.State.{Rows, lengthsRight}
 use Rattle.rules.specs.Step.{turnOf}
-use Rattle.lines.specs.Lines.{rows}
-use Rattle.turned.specs.declared.Turned as left
-use Rattle.turned.specs.Steps.{turned}
-use Rattle.turned.proofs.One.{turned-one, rows-one}
+use Rattle.placing.specs.Lines.{rows}
+use Rattle.outcome.specs.declared.Turned as left
+use Rattle.outcome.specs.Steps.{turned}
+use Rattle.outcome.proofs.One.{turned-one, rows-one}
 
 pub turn-one : (shape : Shape) (x : ℕ) (t : Tracker) (was : Rows) (r s : left.Turned) (ls bs m ls′ bs′ m′ : List ℕ)
     → turned r ls bs m ≡ turnOf shape x t was

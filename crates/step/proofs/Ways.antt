@@ -23,8 +23,8 @@ use Rattle.rules.specs.State.{Rows, lengthsRight}
 use Rattle.rules.specs.Whole.{mapBlock}
 use Rattle.rules.specs.Place.{rowsFit, Brought, bringIn}
 use Rattle.rules.specs.Step.{ends, goes, waits, refuses, turnsOf, bitIn, letGo, holdsMap, onMap, map, leafWrite, finish, inLine, byPhase, fit, turnOf}
-use Rattle.lines.specs.Lines.{rows, fetched}
-use Rattle.lines.proofs.Ways.{left, line-is, rows-are, bringIn-fetched, fetched-same}
+use Rattle.placing.specs.Lines.{rows, fetched}
+use Rattle.placing.proofs.Ways.{left, line-is, rows-are, bringIn-fetched, fetched-same}
 use Rattle.leaf.specs.Leaf.{probeOn, leafOn}
 use Rattle.leaf.proofs.Ways.{probeOn-fit}
 

@@ -4,7 +4,7 @@ use geometry::Geometry;
 use geometry::Shape;
 use tracker::Phase;
 use tracker::Tracker;
-use turned::Turned;
+use outcome::Turned;
 ghost use mathlib.Core.Path.{_≡_};
 ghost use mathlib.Core.List.{List};
 ghost use Prim.Native.Nat.{ℕ, _+_, _*_, _≤_, _<_};
@@ -16,8 +16,8 @@ ghost use Rattle.tracker.specs.declared.Phase.the-variants.{Leaf, Set, Clear};
 ghost use Rattle.rules.specs.State.{lengthsRight};
 ghost use Rattle.rules.specs.Whole.{mapBlock};
 ghost use Rattle.rules.specs.Step.{bitIn, holdsMap, onMap, map, finish, inLine, byPhase, fit, turnOf};
-ghost use Rattle.lines.specs.Lines.{rows};
-ghost use Rattle.turned.specs.Steps.{turned};
+ghost use Rattle.placing.specs.Lines.{rows};
+ghost use Rattle.outcome.specs.Steps.{turned};
 
 // The map block of group g.
 fn map_block(n: u32, g: u32) -> u32
@@ -46,7 +46,7 @@ fn holds_map(x: u32, i: usize, shape: Shape, t: Tracker, lines: &mut [u32]) -> T
     ensures { λ r. ⌜ ((bs m : List ℕ) → turned r (now (lines .exit)) bs m ≡ holdsMap x t (record { line = i; shape = shape; rows = rows (now (lines .entry)) bs m })) ⌝ }
 {
     lines[i] = line::held_by(lines[i], x + 1);
-    turned::goes(shape, t, Phase::Leaf)
+    outcome::goes(shape, t, Phase::Leaf)
 }
 
 // Map, with the map block in line i. Bit 0: a read ends with 0; a write of 0 ends "same". Otherwise hold the map block, on to Leaf.
@@ -58,10 +58,10 @@ fn on_map(x: u32, i: usize, shape: Shape, t: Tracker, lines: &mut [u32], bytes: 
         return holds_map(x, i, shape, t, lines);
     }
     if !t.write {
-        return turned::ends_read(shape, t, 0);
+        return outcome::ends_read(shape, t, 0);
     }
     if t.value == 0 {
-        return turned::ends_same(shape, t);
+        return outcome::ends_same(shape, t);
     }
     holds_map(x, i, shape, t, lines)
 }
@@ -83,14 +83,14 @@ fn map(
     let i = line::line_of(lines, l, b);
     if i < l {
         if line::held(lines[i]) {
-            return turned::waits(shape, t);
+            return outcome::waits(shape, t);
         }
         return on_map(x, i, shape, t, lines, bytes);
     }
-    let spot = lines::fetch(shape, b, lines, bytes, memory);
+    let spot = placing::fetch(shape, b, lines, bytes, memory);
     let at = spot.line;
     if l <= at {
-        return turned::refuses(4, shape, t);
+        return outcome::refuses(4, shape, t);
     }
     on_map(x, at, spot.shape, t, lines, bytes)
 }
@@ -109,7 +109,7 @@ fn at_leaf(
     let l = shape.l;
     let j = line::line_of(lines, l, map_block(shape.n, t.group));
     if l <= j {
-        return turned::refuses(4, shape, t);
+        return outcome::refuses(4, shape, t);
     }
     let bit = bit_in(bytes, j, t.group);
     leaf::leaf(shape, j, bit, t, lines, bytes, memory)
@@ -135,7 +135,7 @@ fn finish(
         set,
     );
     leaf::let_go(lines, j, true);
-    turned::ends_done(shape, t)
+    outcome::ends_done(shape, t)
 }
 
 // Finish, where the tracker holds its map block; 4 where no line has it.
@@ -146,7 +146,7 @@ fn finishes(shape: Shape, set: bool, t: Tracker, lines: &mut [u32], bytes: &mut 
     let l = shape.l;
     let j = line::line_of(lines, l, map_block(shape.n, t.group));
     if l <= j {
-        return turned::refuses(4, shape, t);
+        return outcome::refuses(4, shape, t);
     }
     finish(shape, j, set, t, lines, bytes)
 }
@@ -165,7 +165,7 @@ fn by_phase(
 {
     let phase = t.phase;
     match phase {
-        Phase::Idle => turned::refuses(8, shape, t),
+        Phase::Idle => outcome::refuses(8, shape, t),
         Phase::Probe => leaf::probe(shape, t, lines, bytes),
         Phase::Map => map(shape, x, t, lines, bytes, memory),
         Phase::Leaf => at_leaf(shape, t, lines, bytes, memory),
@@ -194,7 +194,7 @@ fn fit(shape: Shape, x: u32, t: Tracker, lines: &[u32]) -> bool
 pub fn lengths_right(shape: Shape, bytes: &[u8], memory: &[u8]) -> bool
     ensures { λ r. ⌜ r ≡ lengthsRight shape (now (bytes .entry)) (now (memory .entry)) ⌝ }
 {
-    if !lines::bytes_fit(shape.l, bytes) {
+    if !placing::bytes_fit(shape.l, bytes) {
         return false;
     }
     memory.len() as u64 == Geometry::memory_length(shape.n)
@@ -212,10 +212,10 @@ pub fn turn(
     ensures { λ r. ⌜ turned r (now (lines .exit)) (now (bytes .exit)) (now (memory .exit)) ≡ turnOf shape x t (rows (now (lines .entry)) (now (bytes .entry)) (now (memory .entry))) ⌝ }
 {
     if !fit(shape, x, t, lines) {
-        return turned::refuses(4, shape, t);
+        return outcome::refuses(4, shape, t);
     }
     if !lengths_right(shape, bytes, memory) {
-        return turned::refuses(2, shape, t);
+        return outcome::refuses(2, shape, t);
     }
     by_phase(shape, x, t, lines, bytes, memory)
 }

@@ -1,6 +1,6 @@
 -- `create` meets its contract: the line's word and its bytes.
 use borrow.Author.Needs.{needs}
-use Rattle.turned.proofs.Rule.{by-rule}
+use Rattle.outcome.proofs.Rule.{by-rule}
 use Rattle.leaf.proofs.Ways.{created}
 use Rattle.leaf.proofs.create.Statement.{statement}
 use Rattle.leaf.proofs.create.Tie as tie

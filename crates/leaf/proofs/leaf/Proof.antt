@@ -7,7 +7,7 @@ use lib.Dec.{ltb}
 use borrow.Author.Tests.{not-true, not-false}
 use Rattle.laws.specs.Choice.{both}
 use Rattle.rules.specs.Place.{rowsFit}
-use Rattle.turned.proofs.Rule.{by-rule}
+use Rattle.outcome.proofs.Rule.{by-rule}
 use Rattle.leaf.proofs.Ways.{in-line, in-lines, in-bytes, leafOn-misfit, leafOn-read, leafOn-0, leafOn-1}
 use Rattle.leaf.proofs.leaf.Statement.{statement}
 use Rattle.leaf.proofs.leaf.Tie as tie

@@ -1,7 +1,7 @@
 -- `leaf_read` meets its contract: a law for each way out.
 use borrow.Author.Needs.{needs}
 use native.Mathlib.Omega.{arith}
-use Rattle.turned.proofs.Rule.{by-rule}
+use Rattle.outcome.proofs.Rule.{by-rule}
 use Rattle.leaf.proofs.Ways.{leafRead-none, leafRead-ends}
 use Rattle.leaf.proofs.leaf_read.Statement.{statement}
 use Rattle.leaf.proofs.leaf_read.Tie as tie

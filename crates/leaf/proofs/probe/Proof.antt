@@ -5,8 +5,8 @@ use mathlib.Core.Bool.{true}
 use native.Mathlib.Omega.{arith}
 use borrow.Author.Tests.{not-true, not-false}
 use Rattle.rules.specs.Place.{rowsFit}
-use Rattle.lines.proofs.Ways.{fit-bytes}
-use Rattle.turned.proofs.Rule.{by-rule}
+use Rattle.placing.proofs.Ways.{fit-bytes}
+use Rattle.outcome.proofs.Rule.{by-rule}
 use Rattle.leaf.proofs.Ways.{probe-none, probe-read, probe-same, probe-other, probeOn-misfit, probeOn-fit}
 use Rattle.leaf.proofs.probe.Statement.{statement}
 use Rattle.leaf.proofs.probe.Tie as tie

@@ -3,7 +3,7 @@ use borrow.Author.Needs.{needs}
 use mathlib.Core.Path.{_∙_}
 use lib.ListN.{length-set}
 use Rattle.geometry.specs.TagMemory.{byteOf}
-use Rattle.turned.proofs.Rule.{by-rule}
+use Rattle.outcome.proofs.Rule.{by-rule}
 use Rattle.leaf.proofs.Ways.{putIn-clear, putIn-done}
 use Rattle.leaf.proofs.put_in.Statement.{statement}
 use Rattle.leaf.proofs.put_in.Tie as tie

@@ -1,7 +1,7 @@
 -- `write_under_0` meets its contract: a law for each way out.
 use borrow.Author.Needs.{needs}
 use native.Mathlib.Omega.{arith}
-use Rattle.turned.proofs.Rule.{by-rule}
+use Rattle.outcome.proofs.Rule.{by-rule}
 use Rattle.leaf.proofs.Ways.{writeUnder0-same, writeUnder0-lined, writeUnder0-none, writeUnder0-placed}
 use Rattle.leaf.proofs.write_under_0.Statement.{statement}
 use Rattle.leaf.proofs.write_under_0.Tie as tie

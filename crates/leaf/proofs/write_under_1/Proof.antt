@@ -1,7 +1,7 @@
 -- `write_under_1` meets its contract: a law for each way out.
 use borrow.Author.Needs.{needs}
 use native.Mathlib.Omega.{arith}
-use Rattle.turned.proofs.Rule.{by-rule}
+use Rattle.outcome.proofs.Rule.{by-rule}
 use Rattle.leaf.proofs.Ways.{writeUnder1-none, writeUnder1-same, writeUnder1-put}
 use Rattle.leaf.proofs.write_under_1.Statement.{statement}
 use Rattle.leaf.proofs.write_under_1.Tie as tie

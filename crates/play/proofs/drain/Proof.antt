@@ -4,7 +4,7 @@ use mathlib.Core.Path.{ap}
 use native.Mathlib.Omega.{arith}
 use Rattle.rules.specs.State.{Rows}
 use Rattle.play.specs.Turn.{accepts}
-use Rattle.turned.proofs.Rule.{by-rule}
+use Rattle.outcome.proofs.Rule.{by-rule}
 use Rattle.play.proofs.Ways.{drain-no, drain-ok}
 use Rattle.play.proofs.drain.Statement.{statement}
 use Rattle.play.proofs.drain.Tie as tie

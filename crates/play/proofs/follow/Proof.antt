@@ -1,6 +1,6 @@
 -- `follow` meets its contract: each command its own turn.
 use borrow.Author.Needs.{needs}
-use Rattle.turned.proofs.Rule.{by-rule}
+use Rattle.outcome.proofs.Rule.{by-rule}
 use Rattle.play.proofs.Ways.{line-new, line-read, line-write, line-step, line-drain, line-bad}
 use Rattle.play.proofs.follow.Statement.{statement}
 use Rattle.play.proofs.follow.Tie as tie

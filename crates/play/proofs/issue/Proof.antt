@@ -2,7 +2,7 @@
 use borrow.Author.Needs.{needs}
 use mathlib.Core.Path.{refl}
 use native.Mathlib.Omega.{arith}
-use Rattle.turned.proofs.Rule.{by-rule}
+use Rattle.outcome.proofs.Rule.{by-rule}
 use Rattle.play.proofs.Ways.{issue-no, issue-ok}
 use Rattle.play.proofs.issue.Statement.{statement}
 use Rattle.play.proofs.issue.Tie as tie

@@ -1,7 +1,7 @@
 -- `one_step` meets its contract: refused, or the step is the core's.
 use borrow.Author.Needs.{needs}
 use native.Mathlib.Omega.{arith}
-use Rattle.turned.proofs.Rule.{by-rule}
+use Rattle.outcome.proofs.Rule.{by-rule}
 use Rattle.play.proofs.Ways.{step-no, step-ok}
 use Rattle.play.proofs.one_step.Statement.{statement}
 use Rattle.play.proofs.one_step.Tie as tie

@@ -1,8 +1,8 @@
 -- `at_leaf` meets its contract: the map block is in a line, or not.
 use borrow.Author.Needs.{needs}
 use native.Mathlib.Omega.{arith}
-use Rattle.lines.proofs.Ways.{rows-fit}
-use Rattle.turned.proofs.Rule.{by-rule}
+use Rattle.placing.proofs.Ways.{rows-fit}
+use Rattle.outcome.proofs.Rule.{by-rule}
 use Rattle.step.proofs.Ways.{inLine-none, inLine-leaf}
 use Rattle.step.proofs.at_leaf.Statement.{statement}
 use Rattle.step.proofs.at_leaf.Tie as tie

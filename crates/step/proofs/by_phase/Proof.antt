@@ -1,9 +1,9 @@
 -- `by_phase` meets its contract: one rule for each phase.
 use borrow.Author.Needs.{needs}
-use Rattle.turned.proofs.Rule.{by-rule}
+use Rattle.outcome.proofs.Rule.{by-rule}
 use Rattle.step.proofs.Ways.{at-phase, at-probe}
 use native.Mathlib.Omega.{arith}
-use Rattle.lines.proofs.Ways.{rows-fit}
+use Rattle.placing.proofs.Ways.{rows-fit}
 use Rattle.step.proofs.by_phase.Statement.{statement}
 use Rattle.step.proofs.by_phase.Tie as tie
 

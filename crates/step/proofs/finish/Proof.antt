@@ -1,7 +1,7 @@
 -- `finish` meets its contract: the bit, the map line's word, the ending.
 use borrow.Author.Needs.{needs}
 use Rattle.geometry.specs.TagMemory.{mapByteOf}
-use Rattle.turned.proofs.Rule.{by-rule}
+use Rattle.outcome.proofs.Rule.{by-rule}
 use Rattle.step.proofs.Ways.{finish-is}
 use Rattle.step.proofs.finish.Statement.{statement}
 use Rattle.step.proofs.finish.Tie as tie

@@ -1,7 +1,7 @@
 -- `finishes` meets its contract: the map block is in a line, or not.
 use borrow.Author.Needs.{needs}
 use native.Mathlib.Omega.{arith}
-use Rattle.turned.proofs.Rule.{by-rule}
+use Rattle.outcome.proofs.Rule.{by-rule}
 use Rattle.step.proofs.Ways.{inLine-none, inLine-finish}
 use Rattle.step.proofs.finishes.Statement.{statement}
 use Rattle.step.proofs.finishes.Tie as tie

@@ -1,6 +1,6 @@
 -- `holds_map` meets its contract: the line's word with the tracker's number.
 use borrow.Author.Needs.{needs}
-use Rattle.turned.proofs.Rule.{by-rule}
+use Rattle.outcome.proofs.Rule.{by-rule}
 use Rattle.step.proofs.Ways.{holds-is}
 use Rattle.step.proofs.holds_map.Statement.{statement}
 use Rattle.step.proofs.holds_map.Tie as tie

@@ -2,7 +2,7 @@
 use borrow.Author.Needs.{needs}
 use mathlib.Core.Path.{sym, _∙_}
 use native.Mathlib.Omega.{arith}
-use Rattle.turned.proofs.Rule.{by-rule}
+use Rattle.outcome.proofs.Rule.{by-rule}
 use Rattle.step.proofs.Ways.{map-waits, map-lined, map-none, map-fetched}
 use Rattle.step.proofs.map.Statement.{statement}
 use Rattle.step.proofs.map.Tie as tie

@@ -2,7 +2,7 @@
 use borrow.Author.Needs.{needs}
 use native.Mathlib.Omega.{arith}
 use borrow.Author.Tests.{not-true, not-false}
-use Rattle.turned.proofs.Rule.{by-rule}
+use Rattle.outcome.proofs.Rule.{by-rule}
 use Rattle.step.proofs.Ways.{onMap-under-1, onMap-read, onMap-same, onMap-write}
 use Rattle.step.proofs.on_map.Statement.{statement}
 use Rattle.step.proofs.on_map.Tie as tie

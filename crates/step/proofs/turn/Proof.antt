@@ -4,8 +4,8 @@ use mathlib.Core.Path.{_≡_, sym, _∙_}
 use mathlib.Core.Bool.{true}
 use borrow.Author.Tests.{not-true, not-false}
 use Rattle.rules.specs.Step.{fit}
-use Rattle.lines.specs.Lines.{rows}
-use Rattle.turned.proofs.Rule.{by-rule}
+use Rattle.placing.specs.Lines.{rows}
+use Rattle.outcome.proofs.Rule.{by-rule}
 use Rattle.step.proofs.Ways.{fit-n, fit-l, fit-x, lengths-l, turn-broken, turn-lengths, turn-steps}
 use Rattle.step.proofs.turn.Statement.{statement}
 use Rattle.step.proofs.turn.Tie as tie

@@ -1,0 +1,18 @@
+-- `ends_read` meets its contract: the ending carries one turn more.
+use borrow.Author.Needs.{needs}
+use Rattle.tracker.specs.Answer.{read}
+use Rattle.outcome.proofs.Rule.{by-rule, ends-turns}
+use Rattle.outcome.proofs.ends_read.Statement.{statement}
+use Rattle.outcome.proofs.ends_read.Tie as tie
+
+one-more-requires : tie.Need-one-more-requires
+one-more-requires c κs = search needs
+
+ends-requires : tie.Need-ends-requires
+ends-requires c κs = search needs
+
+returns : tie.Need-returns
+returns c = λ ls bs m. by-rule (ends-turns (read (c .before .before .args .v)) _ _ (c .before .one-more .ensures)) (c .ends .ensures ls bs m)
+
+pub ends-read-spec : {M : Type 1} → statement M
+ends-read-spec = tie.close (tie.spec one-more-requires ends-requires returns)

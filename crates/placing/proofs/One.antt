@@ -1,0 +1,31 @@
+-- Two results that a promise allows for one input are equal: both are the rule's.
+use mathlib.Core.Path.{_≡_, sym, ap, _∙_}
+use mathlib.Core.List.{List}
+use mathlib.Core.Bool.{Bool}
+use Prim.Native.Nat.{ℕ, _*_}
+use lib.Dec.{eqb}
+use lib.ListN.{length}
+use Rattle.geometry.specs.declared.Shape.{Shape}
+use Rattle.rules.specs.State.{Rows}
+use Rattle.rules.specs.Place.{rowsFit, Brought}
+use Rattle.placing.specs.declared.Spot.{Spot}
+use Rattle.placing.specs.Lines.{rows, brought}
+use Rattle.placing.proofs.Ways.{rows-are}
+
+pub bytes-fit-one : (l : ℕ) (bytes : List ℕ) {a b : Bool} → a ≡ eqb (length bytes) (64 * l) → b ≡ eqb (length bytes) (64 * l) → a ≡ b
+bytes-fit-one l bytes p q = p ∙ sym q
+
+pub rows-fit-one : (l : ℕ) (lines bytes : List ℕ) {a b : Bool} → a ≡ rowsFit l lines bytes → b ≡ rowsFit l lines bytes → a ≡ b
+rows-fit-one l lines bytes p q = p ∙ sym q
+
+-- what `place`, `fetch` and `bring_in` leave: the line, the shape and the rows
+pub brought-one : {d : Brought} (a b : Spot) (ls bs m ls′ bs′ m′ : List ℕ) → brought a ls bs m ≡ d → brought b ls′ bs′ m′ ≡ d → (a ≡ b) × (rows ls bs m ≡ rows ls′ bs′ m′)
+brought-one a b ls bs m ls′ bs′ m′ p q =
+    let e : brought a ls bs m ≡ brought b ls′ bs′ m′ = p ∙ sym q in
+    (ap (λ (y : Brought). spot (y .line) (y .shape)) e, rows-are e)
+  where
+    spot : ℕ → Shape → Spot
+    spot line shape = record { line = line; shape = shape }
+
+pub drain-one : {d : Rows} (a b : Rows) → a ≡ d → b ≡ d → a ≡ b
+drain-one a b p q = p ∙ sym q

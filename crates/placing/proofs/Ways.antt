@@ -1,0 +1,225 @@
+-- A law for each way out of placing, bringing in and draining, from what the code has tested.
+use mathlib.Core.Path.{_≡_, refl, sym, ap, _∙_}
+use mathlib.Core.List.{List}
+use mathlib.Core.Bool.{Bool, true, false}
+use mathlib.Core.Logic.{⊎-elim}
+use Prim.Native.Nat.{ℕ, _+_, _*_, _/_, _%_, _≤_, _<_}
+use native.Mathlib.Omega.{arith}
+use native.Mathlib.Numerals.{add-one}
+use lib.Dec.{eqb, ltb}
+use lib.ListN.{length, getD, set, length-set}
+use borrow.Author.Tests.{lt-ltb, le-ltb, le-leb, lt-leb, ltb-true, leb-true, eqb-true, eqb-false, eq-eqb, ne-eqb}
+use Rattle.laws.specs.Choice.{pick, both}
+use Rattle.laws.proofs.Choice.{true-or-false, both-true, both-left, both-right}
+use Rattle.laws.specs.Bytes.{part, fits, putW}
+use Rattle.geometry.specs.declared.Shape.{Shape}
+use Rattle.geometry.specs.Shape.{atHand}
+use Rattle.geometry.specs.TagMemory.{blockPlace}
+use Rattle.block.specs.Block.{blockOr0}
+use Rattle.block.proofs.Blocks.{copy-fits}
+use Rattle.line.specs.Word.{blockOf, changed, word, cleaned}
+use Rattle.line.specs.Find.{lineOf, lowestFree, victim, after}
+use Rattle.line.proofs.Words.{changed-none}
+use Rattle.line.proofs.Find.{lowestFree-free}
+use Rattle.rules.specs.State.{Rows}
+use Rattle.rules.specs.Place.{rowsFit, placeLine, placeHand, writtenBack, placeMemory, Brought, bringIn, drained}
+use Rattle.placing.specs.Lines.{rows, placed, fetched, drainedRows}
+
+-- the rows fit: what that says
+pub fit-lines : (l : ℕ) (lines bytes : List ℕ) → rowsFit l lines bytes ≡ true → l ≤ length lines
+unfolding rowsFit
+fit-lines l lines bytes e = leb-true _ _ (both-left _ _ e)
+
+pub fit-bytes : (l : ℕ) (lines bytes : List ℕ) → rowsFit l lines bytes ≡ true → length bytes ≡ 64 * l
+unfolding rowsFit
+fit-bytes l lines bytes e = eqb-true _ _ (both-right _ _ e)
+
+pub rows-fit : (l : ℕ) (lines bytes : List ℕ) → l ≤ length lines → length bytes ≡ 64 * l → rowsFit l lines bytes ≡ true
+unfolding rowsFit
+rows-fit l lines bytes h e = both-true _ _ (le-leb _ _ h) (eq-eqb _ _ e)
+
+-- the tests of the lengths, way by way
+pub bytes-ragged : (m l : ℕ) → (m % 64 ≡ 0 → ⊥) → false ≡ eqb m (64 * l)
+bytes-ragged m l h = sym (ne-eqb m (64 * l) (λ e. h (omega arith)))
+
+pub bytes-even : (m l : ℕ) → m % 64 ≡ 0 → eqb (m / 64) l ≡ eqb m (64 * l)
+bytes-even m l h =
+    ⊎-elim (λ t. let e : m / 64 ≡ l = eqb-true _ _ t in t ∙ sym (eq-eqb m (64 * l) (omega arith)))
+    (λ f. f ∙ sym (ne-eqb m (64 * l) (λ (e : m ≡ 64 * l). eqb-false (m / 64) l f (omega arith)))) (true-or-false (eqb (m / 64) l))
+
+pub lines-short : (l : ℕ) (lines bytes : List ℕ) → length lines < l → false ≡ rowsFit l lines bytes
+unfolding rowsFit both
+lines-short l lines bytes h = rw (lt-leb _ _ h) refl
+
+pub lines-enough : (l : ℕ) (lines bytes : List ℕ) {f : Bool} → l ≤ length lines → f ≡ eqb (length bytes) (64 * l) → f ≡ rowsFit l lines bytes
+unfolding rowsFit both
+lines-enough l lines bytes h e = rw (le-leb _ _ h) e
+
+-- a line, a shape and rows, as a function leaves them
+abbrev pub left : (line : ℕ) (shape : Shape) (lines bytes memory : List ℕ) → Brought
+left line shape lines bytes memory = record { line = line; shape = shape; rows = rows lines bytes memory }
+
+-- what an equation of two such says of each part
+module _ {b c : Brought} (e : b ≡ c) where
+  pub line-is : b .line ≡ c .line
+  line-is = ap (λ (y : Brought). y .line) e
+
+  pub shape-is : b .shape ≡ c .shape
+  shape-is = ap (λ (y : Brought). y .shape) e
+
+  pub rows-are : b .rows ≡ c .rows
+  rows-are = ap (λ (y : Brought). y .rows) e
+
+  pub memory-is : b .rows .memory ≡ c .rows .memory
+  memory-is = ap (λ (y : Brought). y .rows .memory) e
+
+-- writing line i back: a clean one, and a changed one straight from its bytes
+module _ (lines bytes memory : List ℕ) (i : ℕ) where
+  pub written-not : changed (getD lines i 0) ≡ false → memory ≡ writtenBack lines bytes memory i
+  unfolding writtenBack
+  written-not e = rw e refl
+
+  pub written-is : {b at : ℕ} {m : List ℕ} → 64 * i + 64 ≤ length bytes → changed (getD lines i 0) ≡ true → b ≡ blockOf (getD lines i 0)
+      → at ≡ blockPlace b → m ≡ pick (fits bytes (64 * i) 64) (putW 64 memory at (part bytes (64 * i) 64)) memory → m ≡ writtenBack lines bytes memory i
+  unfolding writtenBack
+  written-is {b} {at} h e eb ea em = em ∙ sym (copy-fits memory at bytes (64 * i) h) ∙ rw (ea, eb, e) refl
+
+-- a line is taken only where the rows fit
+module _ (shape : Shape) (lines bytes : List ℕ) where
+  placed-fits : placeLine shape lines bytes < shape .l → rowsFit (shape .l) lines bytes ≡ true
+  unfolding placeLine
+  placed-fits h = fits (rowsFit (shape .l) lines bytes) refl
+    where
+      fits : (f : Bool) → rowsFit (shape .l) lines bytes ≡ f → rowsFit (shape .l) lines bytes ≡ true
+      fits true e = e
+      fits false e = absurd (omega (arith, rw e at h))
+
+  module _ (p : ℕ) (e : p ≡ placeLine shape lines bytes) (h : p < shape .l) where
+    pub placed-lines : shape .l ≤ length lines
+    placed-lines = fit-lines (shape .l) lines bytes (placed-fits (omega arith))
+
+    pub placed-bytes : length bytes ≡ 64 * shape .l
+    placed-bytes = fit-bytes (shape .l) lines bytes (placed-fits (omega arith))
+
+-- placing, way by way
+module _ (shape : Shape) (lines bytes memory : List ℕ) where
+  pub placed-misfit : rowsFit (shape .l) lines bytes ≡ false → left (shape .l) shape lines bytes memory ≡ placed shape (rows lines bytes memory)
+  unfolding placeLine placeHand placeMemory both
+  placed-misfit e = sym (rw (e, le-ltb (shape .l) (shape .l) (omega arith)) refl)
+
+  pub placed-free : (i : ℕ) → rowsFit (shape .l) lines bytes ≡ true → i ≡ lowestFree lines (shape .l) → i < shape .l → left i shape lines bytes memory ≡ placed shape (rows lines bytes memory)
+  unfolding placeLine placeHand placeMemory both
+  placed-free i f e h =
+      let h' : lowestFree lines (shape .l) < shape .l = omega arith in
+      rw e (sym (rw (f, lt-ltb _ _ h', lt-leb _ _ h', lt-ltb _ _ h', ← written-not lines bytes memory _ (changed-none _ (lowestFree-free lines (shape .l) h'))) refl))
+
+  -- none is free, and every line is held
+  pub placed-none : (i : ℕ) → rowsFit (shape .l) lines bytes ≡ true → shape .l ≤ lowestFree lines (shape .l) → i ≡ victim lines (shape .l) (shape .hand) → shape .l ≤ i
+      → left i shape lines bytes memory ≡ placed shape (rows lines bytes memory)
+  unfolding placeLine placeHand placeMemory both
+  placed-none i f o e h =
+      let h' : shape .l ≤ victim lines (shape .l) (shape .hand) = omega arith in
+      rw e (sym (rw (f, le-ltb _ _ o, le-leb _ _ o, le-ltb _ _ h') refl))
+
+  pub placed-victim : (i next : ℕ) (z : Shape) (m : List ℕ) → rowsFit (shape .l) lines bytes ≡ true → shape .l ≤ lowestFree lines (shape .l) → i ≡ victim lines (shape .l) (shape .hand) → i < shape .l
+      → next ≡ after (shape .l) i → z ≡ atHand shape next → m ≡ writtenBack lines bytes memory i → left i z lines bytes m ≡ placed shape (rows lines bytes memory)
+  unfolding placeLine placeHand placeMemory both
+  placed-victim i next z m f o e h a y w =
+      let h' : victim lines (shape .l) (shape .hand) < shape .l = omega arith in
+      rw (w, y, a, e) (sym (rw (f, le-ltb _ _ o, le-leb _ _ o, lt-ltb _ _ h') refl))
+
+  -- memory changes only where a line is taken
+  pub placed-same : shape .l ≤ placeLine shape lines bytes → placeMemory shape (rows lines bytes memory) ≡ memory
+  unfolding placeMemory
+  placed-same h = rw (le-ltb _ _ h)
+
+  -- bringing in a block that no line has
+  module _ (b : ℕ) where
+    pub fetched-none : (p : ℕ) (z : Shape) (m : List ℕ) → left p z lines bytes m ≡ placed shape (rows lines bytes memory) → shape .l ≤ p
+        → left (shape .l) shape lines bytes m ≡ fetched shape b (rows lines bytes memory)
+    unfolding fetched
+    fetched-none p z m g h =
+        let o : shape .l ≤ placeLine shape lines bytes = omega (arith, line-is g) in
+        rw (memory-is g ∙ placed-same o) (sym (rw (le-ltb _ _ o) refl))
+
+    pub fetched-is : (p : ℕ) (z : Shape) (w at : ℕ) (bs m y : List ℕ) → left p z lines bytes m ≡ placed shape (rows lines bytes memory) → p < shape .l
+        → w ≡ word b false 0 → at ≡ blockPlace b → y ≡ blockOr0 m at → bs ≡ putW 64 bytes (blockPlace p) y
+        → left p z (set lines p w) bs m ≡ fetched shape b (rows lines bytes memory)
+    unfolding fetched
+    fetched-is p z w at bs m y g h ew ea ey eb =
+        let o : placeLine shape lines bytes < shape .l = omega (arith, line-is g) in
+        rw (eb, ey, ea, ew, line-is g, shape-is g, memory-is g) (sym (rw (lt-ltb _ _ o) refl))
+
+    pub bringIn-found : (i : ℕ) → i ≡ lineOf lines (shape .l) b → i < shape .l → left i shape lines bytes memory ≡ bringIn shape b (rows lines bytes memory)
+    unfolding bringIn
+    bringIn-found i e h =
+        let o : lineOf lines (shape .l) b < shape .l = omega arith in
+        rw e (sym (rw (lt-ltb _ _ o) refl))
+
+    pub bringIn-fetched : shape .l ≤ lineOf lines (shape .l) b → bringIn shape b (rows lines bytes memory) ≡ fetched shape b (rows lines bytes memory)
+    unfolding bringIn fetched
+    bringIn-fetched h = rw (le-ltb _ _ h)
+
+-- where there was no line to take, nothing changed
+pub fetched-same : (shape : Shape) (b : ℕ) (r : Rows) → shape .l ≤ fetched shape b r .line → fetched shape b r .rows ≡ r
+unfolding fetched
+fetched-same shape b r h = same (ltb (placeLine shape (r .lines) (r .bytes)) (shape .l)) refl
+  where
+    same : (f : Bool) → ltb (placeLine shape (r .lines) (r .bytes)) (shape .l) ≡ f → fetched shape b r .rows ≡ r
+    same true e =
+        let p : placeLine shape (r .lines) (r .bytes) < shape .l = ltb-true _ _ e in
+        let q : shape .l ≤ placeLine shape (r .lines) (r .bytes) = rw e at h in
+        absurd (omega arith)
+    same false e = rw e refl
+
+pub bringIn-same : (shape : Shape) (b : ℕ) (lines bytes memory : List ℕ) → shape .l ≤ bringIn shape b (rows lines bytes memory) .line
+    → bringIn shape b (rows lines bytes memory) .rows ≡ rows lines bytes memory
+unfolding bringIn fetched
+bringIn-same shape b lines bytes memory h = same (ltb (lineOf lines (shape .l) b) (shape .l)) refl
+  where
+    same : (f : Bool) → ltb (lineOf lines (shape .l) b) (shape .l) ≡ f → bringIn shape b (rows lines bytes memory) .rows ≡ rows lines bytes memory
+    same true e = rw e refl
+    same false e = rw e (fetched-same shape b (rows lines bytes memory) (rw e at h))
+
+-- the first i of l lines of the rows r are drained
+pub record Draining (l i : ℕ) (r : Rows) (lines memory : List ℕ) : Type 0 where
+  pub within : i ≤ l
+  pub now-lines : lines ≡ drained i r .lines
+  pub now-memory : memory ≡ drained i r .memory
+  pub same-bytes : drained i r .bytes ≡ r .bytes
+  pub lines-kept : length lines ≡ length (r .lines)
+  pub memory-kept : length memory ≡ length (r .memory)
+
+pub draining-none : (l : ℕ) (r : Rows) → Draining l 0 r (r .lines) (r .memory)
+unfolding drained
+draining-none l r = record { within = omega arith; now-lines = refl; now-memory = refl; same-bytes = refl; lines-kept = refl; memory-kept = refl }
+
+pub draining-more : {l i : ℕ} {r : Rows} {lines memory m : List ℕ} (w : ℕ) → Draining l i r lines memory → i < l → w ≡ cleaned (getD lines i 0)
+    → m ≡ writtenBack lines (r .bytes) memory i → length m ≡ length memory → Draining l (i + 1) r (set lines i w) m
+unfolding drained
+draining-more {l} {i} {r} {lines} {memory} {m} w d h ew em k = record {
+  within = omega arith;
+  now-lines = rw (add-one, ew, d .now-lines) refl;
+  now-memory = rw (add-one, em, d .now-lines, d .now-memory, d .same-bytes) refl;
+  same-bytes = rw add-one (d .same-bytes);
+  lines-kept = simp length-set (d .lines-kept);
+  memory-kept = k ∙ d .memory-kept;
+}
+
+-- all l lines of the rows r are drained
+pub draining-all : (l i : ℕ) (r : Rows) (ls m : List ℕ) → Draining l i r ls m → l ≤ i → rows ls (r .bytes) m ≡ drained l r
+draining-all l i r ls m d h =
+    let e : i ≡ l = omega arith in
+    rw (← e) (by-rows (drained i r) (d .now-lines) (sym (d .same-bytes)) (d .now-memory))
+  where
+    by-rows : {lines bytes memory : List ℕ} (a : Rows) → lines ≡ a .lines → bytes ≡ a .bytes → memory ≡ a .memory → rows lines bytes memory ≡ a
+    by-rows a p q s = rw (p, q, s) refl
+
+module _ (shape : Shape) (lines bytes memory : List ℕ) where
+  pub drainedRows-fit : rowsFit (shape .l) lines bytes ≡ true → drainedRows shape (rows lines bytes memory) ≡ drained (shape .l) (rows lines bytes memory)
+  unfolding drainedRows
+  drainedRows-fit e = rw e
+
+  pub drainedRows-misfit : rowsFit (shape .l) lines bytes ≡ false → rows lines bytes memory ≡ drainedRows shape (rows lines bytes memory)
+  unfolding drainedRows
+  drainedRows-misfit e = rw e refl

@@ -1,0 +1,130 @@
+// 01 "The cache" on rows that are lent: placing a block, bringing one in, draining.
+// No public function has a `requires`: where the rows are not of L lines, no line is taken and nothing changes.
+use geometry::Geometry;
+use geometry::Shape;
+ghost use mathlib.Core.Path.{_≡_};
+ghost use Prim.Native.Nat.{_+_, _*_, _≤_, _<_};
+ghost use lib.Dec.{eqb};
+ghost use lib.ListN.{length};
+ghost use Rattle.rules.specs.Place.{rowsFit, writtenBack, bringIn, drained};
+ghost use Rattle.placing.specs.Lines.{rows, placed, fetched, drainedRows, brought};
+
+// A line, L for none, and the shape with its hand.
+pub struct Spot {
+    pub line: usize,
+    pub shape: Shape,
+}
+
+// The line bytes are those of L lines.
+pub fn bytes_fit(l: usize, bytes: &[u8]) -> bool
+    ensures { λ r. ⌜ r ≡ eqb (length (now (bytes .entry))) (64 * l) ⌝ }
+{
+    if bytes.len() % Geometry::BLOCK_LEN != 0 {
+        return false;
+    }
+    bytes.len() / Geometry::BLOCK_LEN == l
+}
+
+// The rows are of L lines.
+pub fn rows_fit(l: usize, lines: &[u32], bytes: &[u8]) -> bool
+    ensures { λ r. ⌜ r ≡ rowsFit l (now (lines .entry)) (now (bytes .entry)) ⌝ }
+{
+    if lines.len() < l {
+        return false;
+    }
+    bytes_fit(l, bytes)
+}
+
+// Line i, if it is changed, straight from its bytes to its block's own place in memory.
+fn write_back(i: usize, lines: &[u32], bytes: &[u8], memory: &mut [u8])
+    requires { ⌜ (i < length (now lines)) × (64 * i + 64 ≤ length (now bytes)) ⌝ }
+    ensures { λ _. ⌜ now (memory .exit) ≡ writtenBack (now (lines .entry)) (now (bytes .entry)) (now (memory .entry)) i ⌝ }
+{
+    let w = lines[i];
+    if !line::changed(w) {
+        return;
+    }
+    let at = Geometry::block_place(line::block_of(w));
+    block::copy_block(memory, at, bytes, Geometry::BLOCK_LEN * i);
+}
+
+// Placing a block: the line to take, written back if it was changed, and the shape with its hand.
+pub fn place(shape: Shape, lines: &[u32], bytes: &[u8], memory: &mut [u8]) -> Spot
+    ensures { λ r. ⌜ brought r (now (lines .entry)) (now (bytes .entry)) (now (memory .exit)) ≡ placed shape (rows (now (lines .entry)) (now (bytes .entry)) (now (memory .entry))) ⌝ }
+{
+    let l = shape.l;
+    if !rows_fit(l, lines, bytes) {
+        return Spot { line: l, shape };
+    }
+    let free = line::lowest_free(lines, l);
+    if free < l {
+        return Spot { line: free, shape };
+    }
+    let i = line::victim(lines, l, shape.hand);
+    if l <= i {
+        return Spot { line: i, shape };
+    }
+    write_back(i, lines, bytes, memory);
+    Spot {
+        line: i,
+        shape: shape.at_hand(line::after(l, i)),
+    }
+}
+
+// Bringing in a block that no line has: it is placed, and its 64 bytes are copied from memory, clean.
+pub fn fetch(shape: Shape, b: u32, lines: &mut [u32], bytes: &mut [u8], memory: &mut [u8]) -> Spot
+    ensures { λ r. ⌜ brought r (now (lines .exit)) (now (bytes .exit)) (now (memory .exit)) ≡ fetched shape b (rows (now (lines .entry)) (now (bytes .entry)) (now (memory .entry))) ⌝ }
+{
+    let l = shape.l;
+    let spot = place(shape, lines, bytes, memory);
+    let p = spot.line;
+    if l <= p {
+        return Spot { line: l, shape };
+    }
+    let block = block::read_block(memory, Geometry::block_place(b));
+    lines[p] = line::word(b, false, 0);
+    block::write_block(bytes, Geometry::BLOCK_LEN * p, &block);
+    spot
+}
+
+// Bringing in block b: the line that has it, else it is fetched.
+pub fn bring_in(
+    shape: Shape,
+    b: u32,
+    lines: &mut [u32],
+    bytes: &mut [u8],
+    memory: &mut [u8],
+) -> Spot
+    ensures { λ r. ⌜ brought r (now (lines .exit)) (now (bytes .exit)) (now (memory .exit)) ≡ bringIn shape b (rows (now (lines .entry)) (now (bytes .entry)) (now (memory .entry))) ⌝ }
+{
+    let l = shape.l;
+    let i = line::line_of(lines, l, b);
+    if i < l {
+        return Spot { line: i, shape };
+    }
+    fetch(shape, b, lines, bytes, memory)
+}
+
+// Changed lines to memory, lowest line first, and marked clean, in rows that are of L lines.
+fn drain_all(l: usize, lines: &mut [u32], bytes: &[u8], memory: &mut [u8])
+    requires { ⌜ (l ≤ length (now lines)) × (length (now bytes) ≡ 64 * l) ⌝ }
+    ensures { λ _. ⌜ rows (now (lines .exit)) (now (bytes .entry)) (now (memory .exit)) ≡ drained l (rows (now (lines .entry)) (now (bytes .entry)) (now (memory .entry))) ⌝ }
+{
+    let mut i = 0;
+    while i < l {
+        write_back(i, lines, bytes, memory);
+        lines[i] = line::cleaned(lines[i]);
+        i += 1;
+    }
+}
+
+// Changed lines to memory, lowest line first, and marked clean; the lines stay.
+pub fn drain(shape: Shape, lines: &mut [u32], bytes: &[u8], memory: &mut [u8])
+    ensures { λ _. ⌜ rows (now (lines .exit)) (now (bytes .entry)) (now (memory .exit)) ≡ drainedRows shape (rows (now (lines .entry)) (now (bytes .entry)) (now (memory .entry))) ⌝ }
+{
+    let l = shape.l;
+    if !rows_fit(l, lines, bytes) {
+        return;
+    }
+    drain_all(l, lines, bytes, memory);
+}
