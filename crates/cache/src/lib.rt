@@ -2,10 +2,10 @@
 // No public function has a `requires`: every number, every field of the state and both lent slices can be anything.
 use geometry::Geometry;
 use geometry::Shape;
+use outcome::Turned;
 use tracker::Access;
 use tracker::Answer;
 use tracker::Tracker;
-use outcome::Turned;
 ghost use mathlib.Core.Path.{_≡_};
 ghost use mathlib.Core.Bool.{true};
 ghost use Prim.Native.Nat.{_≤_};

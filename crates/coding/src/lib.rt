@@ -8,7 +8,6 @@ use tracker::Phase;
 use tracker::Tracker;
 ghost use mathlib.Core.Path.{_≡_};
 ghost use mathlib.Core.Bool.{true};
-ghost use mathlib.Core.List.{[], _∷_};
 ghost use Prim.Native.Nat.{_+_, _≤_};
 ghost use lib.Dec.{eqb};
 ghost use lib.ListN.{length};

@@ -2,9 +2,9 @@
 // No public function has a `requires`: where the rows are not of L lines, the step is refused.
 use geometry::Geometry;
 use geometry::Shape;
+use outcome::Turned;
 use tracker::Phase;
 use tracker::Tracker;
-use outcome::Turned;
 ghost use mathlib.Core.Path.{_≡_};
 ghost use mathlib.Core.List.{List};
 ghost use mathlib.Core.Bool.{true};

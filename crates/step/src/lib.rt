@@ -2,9 +2,9 @@
 // The public function has no `requires`: what a step relies on is tested, and refused where it fails.
 use geometry::Geometry;
 use geometry::Shape;
+use outcome::Turned;
 use tracker::Phase;
 use tracker::Tracker;
-use outcome::Turned;
 ghost use mathlib.Core.Path.{_≡_};
 ghost use mathlib.Core.List.{List};
 ghost use Prim.Native.Nat.{ℕ, _+_, _*_, _≤_, _<_};
