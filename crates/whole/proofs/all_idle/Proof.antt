@@ -46,13 +46,23 @@ loop-less : tie.Need-loop-less Inv-loop μ-loop
 loop-less c = omega arith
 
 loop-again : tie.Need-loop-again Inv-loop μ-loop
-loop-again c = (omega arith, all-more _ (c .before .before .before .before .loop .x) (c .before .before .before .before .loop .inv .1) (sym (c .before .is-idle .ensures) ∙ c .if1 .taken))
+loop-again c =
+    let at-idle = c .before in
+    let at-turn = at-idle .before .before .before in
+    (omega arith, all-more _ (at-turn .loop .x) (at-turn .loop .inv .1) (sym (at-idle .is-idle .ensures) ∙ c .if1 .taken))
 
 returns : tie.Need-returns Inv-loop μ-loop
-returns c = sym (all-fails _ (c .before .before .before .before .before .before .args .t) (c .before .before .before .before .loop .x) (omega arith) (sym (c .before .is-idle .ensures) ∙ c .if1 .left))
+returns c =
+    let at-idle = c .before in
+    let at-turn = at-idle .before .before .before in
+    let at-start = at-turn .before .before in
+    sym (all-fails _ (at-start .args .t) (at-turn .loop .x) (omega arith) (sym (at-idle .is-idle .ensures) ∙ c .if1 .left))
 
 returns-2 : tie.Need-returns-2 Inv-loop μ-loop
-returns-2 c = sym (all-past (c .before .before .before .args .t) (c .before .before .before .args .t2) isIdle refl (c .before .loop .x) (search needs) (omega arith) (c .before .loop .inv .1))
+returns-2 c =
+    let at-end = c .before in
+    let at-start = at-end .before .before in
+    sym (all-past (at-start .args .t) (at-start .args .t2) isIdle refl (at-end .loop .x) (search needs) (omega arith) (at-end .loop .inv .1))
 
 pub all-idle-spec : {M : Type 1} → statement M
 all-idle-spec =

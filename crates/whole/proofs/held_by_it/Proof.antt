@@ -21,7 +21,13 @@ line-of-requires : tie.Need-line-of-requires
 line-of-requires c κs = search needs
 
 returns : tie.Need-returns
-returns c = sym (not-lined (c .before .before .before .before .before .args .shape) (c .before .before .before .before .before .args .lines .now) (c .before .before .before .before .before .args .g) (c .before .before .before .before .before .args .x) (c .before .line-of .result) (c .before .line-of .ensures ∙ rw (c .before .before .map-number .ensures, c .before .before .before .leaf-of .ensures) refl) (omega arith))
+returns c =
+    let at-line = c .before in
+    let at-map = at-line .before in
+    let at-leaf = at-map .before in
+    let at-start = at-leaf .before .before in
+    let a = at-start .args in
+    sym (not-lined (a .shape) (a .lines .now) (a .g) (a .x) (at-line .line-of .result) (at-line .line-of .ensures ∙ rw (at-map .map-number .ensures, at-leaf .leaf-of .ensures) refl) (omega arith))
 
 mul-holder : tie.Need-mul-holder
 mul-holder c = search needs
@@ -39,7 +45,13 @@ add-result : tie.Need-add-result
 add-result c = search needs
 
 returns-2 : tie.Need-returns-2
-returns-2 c = rw (c .holder .ensures) (sym (lined (c .before .before .before .before .before .before .before .args .shape) (c .before .before .before .before .before .before .before .args .lines .now) (c .before .before .before .before .before .before .before .args .g) (c .before .before .before .before .before .before .before .args .x) (c .before .before .before .line-of .result) (c .before .before .before .line-of .ensures ∙ rw (c .before .before .before .before .map-number .ensures, c .before .before .before .before .before .leaf-of .ensures) refl) (omega arith)))
+returns-2 c =
+    let at-line = c .before .before .before in
+    let at-map = at-line .before in
+    let at-leaf = at-map .before in
+    let at-start = at-leaf .before .before in
+    let a = at-start .args in
+    rw (c .holder .ensures) (sym (lined (a .shape) (a .lines .now) (a .g) (a .x) (at-line .line-of .result) (at-line .line-of .ensures ∙ rw (at-map .map-number .ensures, at-leaf .leaf-of .ensures) refl) (omega arith)))
 
 pub held-by-it-spec : {M : Type 1} → statement M
 held-by-it-spec =

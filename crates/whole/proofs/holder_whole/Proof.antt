@@ -10,10 +10,16 @@ holder-requires : tie.Need-holder-requires
 holder-requires c κs = search needs
 
 returns : tie.Need-returns
-returns c = sym (holder-none (c .before .before .args .shape) (c .before .before .args .w) (c .before .before .args .t3) (omega arith))
+returns c =
+    let at-start = c .before .before in
+    let a = at-start .args in
+    sym (holder-none (a .shape) (a .w) (a .t3) (omega arith))
 
 returns-2 : tie.Need-returns-2
-returns-2 c = sym (holder-past (c .before .before .before .before .args .shape) (c .before .before .before .before .args .w) (c .before .before .before .before .args .t3) (omega arith) (omega arith))
+returns-2 c =
+    let at-start = c .before .before .before .before in
+    let a = at-start .args in
+    sym (holder-past (a .shape) (a .w) (a .t3) (omega arith) (omega arith))
 
 sub-x : tie.Need-sub-x
 sub-x c = search needs
@@ -34,7 +40,12 @@ holds-requires : tie.Need-holds-requires
 holds-requires c κs = search needs
 
 returns-3 : tie.Need-returns-3
-returns-3 c = rw (c .holds .ensures, c .before .block-of .ensures, c .before .before .before .before .before .before .holder .ensures, holder-is (c .before .before .before .before .before .before .before .args .shape) (c .before .before .before .before .before .before .before .args .w) (c .before .before .before .before .before .before .before .args .t3) (omega arith) (omega arith)) refl
+returns-3 c =
+    let at-block = c .before in
+    let at-holder = at-block .before .before .before .before .before in
+    let at-start = at-holder .before in
+    let a = at-start .args in
+    rw (c .holds .ensures, at-block .block-of .ensures, at-holder .holder .ensures, holder-is (a .shape) (a .w) (a .t3) (omega arith) (omega arith)) refl
 
 pub holder-whole-spec : {M : Type 1} → statement M
 holder-whole-spec =

@@ -19,7 +19,11 @@ both-requires c κs = search needs
 
 returns : tie.Need-returns
 unfolding holds
-returns c = rw (c .both .ensures, c .before .map-number .ensures, c .before .before .leaf-of .ensures, c .before .before .before .holds-at .ensures) refl
+returns c =
+    let at-map = c .before in
+    let at-leaf = at-map .before in
+    let at-phase = at-leaf .before in
+    rw (c .both .ensures, at-map .map-number .ensures, at-leaf .leaf-of .ensures, at-phase .holds-at .ensures) refl
 
 pub holds-spec : {M : Type 1} → statement M
 holds-spec =

@@ -23,7 +23,12 @@ both-requires-4 c κs = search needs
 
 returns : tie.Need-returns
 unfolding limits
-returns c = rw (c .both4 .ensures, c .before .both3 .ensures, c .before .before .both2 .ensures, c .before .before .before .both .ensures, c .before .before .before .before .in-limits .ensures) (rw add-one refl)
+returns c =
+    let at-both-rows = c .before in
+    let at-lines = at-both-rows .before in
+    let at-trackers = at-lines .before in
+    let at-leaves = at-trackers .before in
+    rw (c .both4 .ensures, at-both-rows .both3 .ensures, at-lines .both2 .ensures, at-trackers .both .ensures, at-leaves .in-limits .ensures) (rw add-one refl)
 
 pub limits-spec : {M : Type 1} → statement M
 limits-spec =

@@ -13,7 +13,10 @@ shared-slice-read-w : tie.Need-shared-slice-read-w
 shared-slice-read-w c = search needs
 
 returns : tie.Need-returns
-returns c = sym (line-free (c .before .before .before .args .shape) (c .before .before .before .args .lines .now) (c .before .before .before .args .trackers) (c .before .before .before .args .i) (omega arith))
+returns c =
+    let at-start = c .before .before .before in
+    let a = at-start .args in
+    sym (line-free (a .shape) (a .lines .now) (a .trackers) (a .i) (omega arith))
 
 block-of-requires : tie.Need-block-of-requires
 block-of-requires c κs = search needs
@@ -25,7 +28,10 @@ cast-if2 : tie.Need-cast-if2
 cast-if2 c = search needs
 
 returns-2 : tie.Need-returns-2
-returns-2 c = sym (line-none (c .before .before .before .before .before .before .args .shape) (c .before .before .before .before .before .before .args .lines .now) (c .before .before .before .before .before .before .args .trackers) (c .before .before .before .before .before .before .args .i) (omega arith) (omega arith))
+returns-2 c =
+    let at-start = c .before .before .before .before .before .before in
+    let a = at-start .args in
+    sym (line-none (a .shape) (a .lines .now) (a .trackers) (a .i) (omega arith) (omega arith))
 
 line-of-requires : tie.Need-line-of-requires
 line-of-requires c κs = search needs
@@ -37,7 +43,13 @@ both-requires : tie.Need-both-requires
 both-requires c κs = search needs
 
 returns-3 : tie.Need-returns-3
-returns-3 c = rw (c .both .ensures, c .before .holder-whole .ensures, c .before .before .line-of .ensures, c .before .before .before .before .before .block-of .ensures) (sym (line-used (c .before .before .before .before .before .before .before .before .before .args .shape) (c .before .before .before .before .before .before .before .before .before .args .lines .now) (c .before .before .before .before .before .before .before .before .before .args .trackers) (c .before .before .before .before .before .before .before .before .before .args .i) (omega arith) (omega arith)))
+returns-3 c =
+    let at-holder = c .before in
+    let at-line = at-holder .before in
+    let at-block = at-line .before .before .before in
+    let at-start = at-block .before .before .before .before in
+    let a = at-start .args in
+    rw (c .both .ensures, at-holder .holder-whole .ensures, at-line .line-of .ensures, at-block .block-of .ensures) (sym (line-used (a .shape) (a .lines .now) (a .trackers) (a .i) (omega arith) (omega arith)))
 
 pub line-whole-spec : {M : Type 1} → statement M
 line-whole-spec =

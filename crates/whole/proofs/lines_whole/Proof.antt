@@ -29,13 +29,24 @@ loop-less : tie.Need-loop-less Inv-loop μ-loop
 loop-less c = omega arith
 
 loop-again : tie.Need-loop-again Inv-loop μ-loop
-loop-again c = (omega arith, all-more _ (c .before .before .before .loop .i) (c .before .before .before .loop .inv .1) (sym (c .before .line-whole .ensures) ∙ c .if1 .taken))
+loop-again c =
+    let at-whole = c .before in
+    let at-turn = at-whole .before .before in
+    (omega arith, all-more _ (at-turn .loop .i) (at-turn .loop .inv .1) (sym (at-whole .line-whole .ensures) ∙ c .if1 .taken))
 
 returns : tie.Need-returns Inv-loop μ-loop
-returns c = sym (all-fails _ (c .before .before .before .before .before .args .shape .l) (c .before .before .before .loop .i) (omega arith) (sym (c .before .line-whole .ensures) ∙ c .if1 .left))
+returns c =
+    let at-whole = c .before in
+    let at-turn = at-whole .before .before in
+    let at-start = at-turn .before .before in
+    sym (all-fails _ (at-start .args .shape .l) (at-turn .loop .i) (omega arith) (sym (at-whole .line-whole .ensures) ∙ c .if1 .left))
 
 returns-2 : tie.Need-returns-2 Inv-loop μ-loop
-returns-2 c = let e : c .before .loop .i ≡ c .before .before .before .args .shape .l = omega arith in sym (rw e at (c .before .loop .inv .1))
+returns-2 c =
+    let at-end = c .before in
+    let at-start = at-end .before .before in
+    let e : at-end .loop .i ≡ at-start .args .shape .l = omega arith in
+    sym (rw e at (at-end .loop .inv .1))
 
 pub lines-whole-spec : {M : Type 1} → statement M
 lines-whole-spec =

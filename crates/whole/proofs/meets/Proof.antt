@@ -19,7 +19,11 @@ both-requires-2 c κs = search needs
 
 returns : tie.Need-returns
 unfolding meets
-returns c = rw (c .both2 .ensures, c .before .either .ensures, c .before .before .both .ensures, c .before .before .before .before .before .is-idle .ensures) refl
+returns c =
+    let at-writes = c .before in
+    let at-same-group = at-writes .before in
+    let at-idle = at-same-group .before .before .before in
+    rw (c .both2 .ensures, at-writes .either .ensures, at-same-group .both .ensures, at-idle .is-idle .ensures) refl
 
 pub meets-spec : {M : Type 1} → statement M
 meets-spec =

@@ -37,8 +37,12 @@ meets-requires : tie.Need-meets-requires Inv-loop μ-loop
 meets-requires c κs = omega arith
 
 returns : tie.Need-returns Inv-loop μ-loop
-returns c = let a = c .before .before .before .before .before .before .args in
-    sym (none-fails (a .access) (a .t3) (a .t) (c .before .before .before .before .loop .x) (omega arith) (sym (c .before .meets .ensures) ∙ c .if1 .taken))
+returns c =
+    let at-meets = c .before in
+    let at-turn = at-meets .before .before .before in
+    let at-start = at-turn .before .before in
+    let a = at-start .args in
+    sym (none-fails (a .access) (a .t3) (a .t) (at-turn .loop .x) (omega arith) (sym (at-meets .meets .ensures) ∙ c .if1 .taken))
 
 add-x : tie.Need-add-x Inv-loop μ-loop
 add-x c = omega arith
@@ -47,12 +51,19 @@ loop-less : tie.Need-loop-less Inv-loop μ-loop
 loop-less c = omega arith
 
 loop-again : tie.Need-loop-again Inv-loop μ-loop
-loop-again c = let a = c .before .before .before .before .before .before .args in
-    (omega arith, none-more (a .access) (a .t3) (c .before .before .before .before .loop .x) (c .before .before .before .before .loop .inv .1) (sym (c .before .meets .ensures) ∙ c .if1 .left))
+loop-again c =
+    let at-meets = c .before in
+    let at-turn = at-meets .before .before .before in
+    let at-start = at-turn .before .before in
+    let a = at-start .args in
+    (omega arith, none-more (a .access) (a .t3) (at-turn .loop .x) (at-turn .loop .inv .1) (sym (at-meets .meets .ensures) ∙ c .if1 .left))
 
 returns-2 : tie.Need-returns-2 Inv-loop μ-loop
-returns-2 c = let a = c .before .before .before .args in
-    sym (none-past (a .access) (a .t3) (a .t) (c .before .loop .x) (search needs) (omega arith) (c .before .loop .inv .1))
+returns-2 c =
+    let at-end = c .before in
+    let at-start = at-end .before .before in
+    let a = at-start .args in
+    sym (none-past (a .access) (a .t3) (a .t) (at-end .loop .x) (search needs) (omega arith) (at-end .loop .inv .1))
 
 pub meets-none-spec : {M : Type 1} → statement M
 meets-none-spec =

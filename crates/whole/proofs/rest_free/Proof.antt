@@ -28,7 +28,11 @@ shared-slice-read-if1 : tie.Need-shared-slice-read-if1 Inv-loop μ-loop
 shared-slice-read-if1 c = omega arith
 
 returns : tie.Need-returns Inv-loop μ-loop
-returns c = sym (rest-fails (c .before .before .before .before .args .l) (c .before .before .before .before .args .lines .now) (c .before .before .before .loop .i) (omega arith) (omega arith) (omega arith))
+returns c =
+    let at-turn = c .before .before .before in
+    let at-start = at-turn .before in
+    let a = at-start .args in
+    sym (rest-fails (a .l) (a .lines .now) (at-turn .loop .i) (omega arith) (omega arith) (omega arith))
 
 add-i : tie.Need-add-i Inv-loop μ-loop
 add-i c = omega arith
@@ -37,10 +41,18 @@ loop-less : tie.Need-loop-less Inv-loop μ-loop
 loop-less c = omega arith
 
 loop-again : tie.Need-loop-again Inv-loop μ-loop
-loop-again c = (omega arith, omega arith, rest-more (c .before .before .before .before .args .l) (c .before .before .before .before .args .lines .now) (c .before .before .before .loop .i) (c .before .before .before .loop .inv .2) (omega arith))
+loop-again c =
+    let at-turn = c .before .before .before in
+    let at-start = at-turn .before in
+    let a = at-start .args in
+    (omega arith, omega arith, rest-more (a .l) (a .lines .now) (at-turn .loop .i) (at-turn .loop .inv .2) (omega arith))
 
 returns-2 : tie.Need-returns-2 Inv-loop μ-loop
-returns-2 c = let e : c .before .loop .i ≡ length (c .before .before .args .lines .now) = omega arith in sym (rw e at (c .before .loop .inv .2))
+returns-2 c =
+    let at-end = c .before in
+    let at-start = at-end .before in
+    let e : at-end .loop .i ≡ length (at-start .args .lines .now) = omega arith in
+    sym (rw e at (at-end .loop .inv .2))
 
 pub rest-free-spec : {M : Type 1} → statement M
 rest-free-spec =

@@ -38,13 +38,26 @@ loop-less : tie.Need-loop-less Inv-loop μ-loop
 loop-less c = omega arith
 
 loop-again : tie.Need-loop-again Inv-loop μ-loop
-loop-again c = (omega arith, omega arith, idle-more (c .before .before .before .before .before .args .t) (c .before .before .before .before .before .args .t2) (c .before .before .before .before .loop .x) (c .before .before .before .before .loop .inv .2) (sym (c .before .is-idle .ensures) ∙ c .if1 .taken))
+loop-again c =
+    let at-idle = c .before in
+    let at-turn = at-idle .before .before .before in
+    let at-start = at-turn .before in
+    let a = at-start .args in
+    (omega arith, omega arith, idle-more (a .t) (a .t2) (at-turn .loop .x) (at-turn .loop .inv .2) (sym (at-idle .is-idle .ensures) ∙ c .if1 .taken))
 
 returns : tie.Need-returns Inv-loop μ-loop
-returns c = sym (idle-fails (c .before .before .before .before .before .args .t) (c .before .before .before .before .before .args .t2) (c .before .before .before .before .loop .x) (omega arith) (omega arith) (sym (c .before .is-idle .ensures) ∙ c .if1 .left))
+returns c =
+    let at-idle = c .before in
+    let at-turn = at-idle .before .before .before in
+    let at-start = at-turn .before in
+    let a = at-start .args in
+    sym (idle-fails (a .t) (a .t2) (at-turn .loop .x) (omega arith) (omega arith) (sym (at-idle .is-idle .ensures) ∙ c .if1 .left))
 
 returns-2 : tie.Need-returns-2 Inv-loop μ-loop
-returns-2 c = let e : c .before .loop .x ≡ mostTrackers = omega arith in sym (rw e at (c .before .loop .inv .2))
+returns-2 c =
+    let at-end = c .before in
+    let e : at-end .loop .x ≡ mostTrackers = omega arith in
+    sym (rw e at (at-end .loop .inv .2))
 
 pub rest-idle-spec : {M : Type 1} → statement M
 rest-idle-spec =

@@ -16,8 +16,11 @@ is-idle-requires : tie.Need-is-idle-requires
 is-idle-requires c κs = search needs
 
 returns : tie.Need-returns
-returns c = let a = c .before .before .before .before .args in
-    sym (tracker-idle (a .shape) (a .lines .now) (a .t3) (a .x) (sym (c .before .is-idle .ensures) ∙ c .if1 .taken))
+returns c =
+    let at-idle = c .before in
+    let at-start = at-idle .before .before .before in
+    let a = at-start .args in
+    sym (tracker-idle (a .shape) (a .lines .now) (a .t3) (a .x) (sym (at-idle .is-idle .ensures) ∙ c .if1 .taken))
 
 groups-requires : tie.Need-groups-requires
 groups-requires c κs = search needs
@@ -26,8 +29,12 @@ cast-if2 : tie.Need-cast-if2
 cast-if2 c = search needs
 
 returns-2 : tie.Need-returns-2
-returns-2 c = let a = c .before .before .before .before .before .before .before .args in
-    sym (tracker-far (a .shape) (a .lines .now) (a .t3) (a .x) (sym (c .before .before .before .before .is-idle .ensures) ∙ c .before .before .before .if1 .left) (omega arith))
+returns-2 c =
+    let when-busy = c .before .before .before in
+    let at-idle = when-busy .before in
+    let at-start = at-idle .before .before .before in
+    let a = at-start .args in
+    sym (tracker-far (a .shape) (a .lines .now) (a .t3) (a .x) (sym (at-idle .is-idle .ensures) ∙ when-busy .if1 .left) (omega arith))
 
 holds-at-requires : tie.Need-holds-at-requires
 holds-at-requires c κs = search needs
@@ -45,12 +52,26 @@ phase-whole-requires-2 : tie.Need-phase-whole-requires-2
 phase-whole-requires-2 c κs = search needs
 
 returns-3 : tie.Need-returns-3
-returns-3 c = let a = c .before .before .before .before .before .before .before .before .before .before .before .before .args in
-    rw (c .both .ensures, c .before .held-by-it .ensures, c .before .before .phase-whole .ensures) (sym (tracker-holds (a .shape) (a .lines .now) (a .t3) (a .x) (sym (c .before .before .before .before .before .before .before .before .before .is-idle .ensures) ∙ c .before .before .before .before .before .before .before .before .if1 .left) (omega arith) (sym (c .before .before .before .before .holds-at .ensures) ∙ c .before .before .before .if3 .taken)))
+returns-3 c =
+    let at-held = c .before in
+    let at-phase = at-held .before in
+    let when-holding = at-phase .before in
+    let at-holds = when-holding .before in
+    let when-busy = at-holds .before .before .before .before in
+    let at-idle = when-busy .before in
+    let at-start = at-idle .before .before .before in
+    let a = at-start .args in
+    rw (c .both .ensures, at-held .held-by-it .ensures, at-phase .phase-whole .ensures) (sym (tracker-holds (a .shape) (a .lines .now) (a .t3) (a .x) (sym (at-idle .is-idle .ensures) ∙ when-busy .if1 .left) (omega arith) (sym (at-holds .holds-at .ensures) ∙ when-holding .if3 .taken)))
 
 returns-4 : tie.Need-returns-4
-returns-4 c = let a = c .before .before .before .before .before .before .before .before .before .before .args in
-    rw (c .phase-whole2 .ensures) (sym (tracker-loose (a .shape) (a .lines .now) (a .t3) (a .x) (sym (c .before .before .before .before .before .before .before .is-idle .ensures) ∙ c .before .before .before .before .before .before .if1 .left) (omega arith) (sym (c .before .before .holds-at .ensures) ∙ c .before .if3 .left)))
+returns-4 c =
+    let when-loose = c .before in
+    let at-holds = when-loose .before in
+    let when-busy = at-holds .before .before .before .before in
+    let at-idle = when-busy .before in
+    let at-start = at-idle .before .before .before in
+    let a = at-start .args in
+    rw (c .phase-whole2 .ensures) (sym (tracker-loose (a .shape) (a .lines .now) (a .t3) (a .x) (sym (at-idle .is-idle .ensures) ∙ when-busy .if1 .left) (omega arith) (sym (at-holds .holds-at .ensures) ∙ when-loose .if3 .left)))
 
 pub tracker-whole-spec : {M : Type 1} → statement M
 tracker-whole-spec =

@@ -32,13 +32,24 @@ loop-less : tie.Need-loop-less Inv-loop μ-loop
 loop-less c = omega arith
 
 loop-again : tie.Need-loop-again Inv-loop μ-loop
-loop-again c = (omega arith, all-more _ (c .before .before .before .loop .x) (c .before .before .before .loop .inv .1) (sym (c .before .tracker-whole .ensures) ∙ c .if1 .taken))
+loop-again c =
+    let at-whole = c .before in
+    let at-turn = at-whole .before .before in
+    (omega arith, all-more _ (at-turn .loop .x) (at-turn .loop .inv .1) (sym (at-whole .tracker-whole .ensures) ∙ c .if1 .taken))
 
 returns : tie.Need-returns Inv-loop μ-loop
-returns c = sym (all-fails _ (c .before .before .before .before .before .before .args .shape .t) (c .before .before .before .loop .x) (omega arith) (sym (c .before .tracker-whole .ensures) ∙ c .if1 .left))
+returns c =
+    let at-whole = c .before in
+    let at-turn = at-whole .before .before in
+    let at-start = at-turn .before .before .before in
+    sym (all-fails _ (at-start .args .shape .t) (at-turn .loop .x) (omega arith) (sym (at-whole .tracker-whole .ensures) ∙ c .if1 .left))
 
 returns-2 : tie.Need-returns-2 Inv-loop μ-loop
-returns-2 c = let e : c .before .loop .x ≡ c .before .before .before .before .args .shape .t = omega arith in sym (rw e at (c .before .loop .inv .1))
+returns-2 c =
+    let at-end = c .before in
+    let at-start = at-end .before .before .before in
+    let e : at-end .loop .x ≡ at-start .args .shape .t = omega arith in
+    sym (rw e at (at-end .loop .inv .1))
 
 pub trackers-whole-spec : {M : Type 1} → statement M
 trackers-whole-spec =
