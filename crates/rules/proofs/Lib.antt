@@ -8,3 +8,4 @@ pub mod Calls
 pub mod Another
 pub mod Begun
 pub mod Worked
+pub mod Broken
