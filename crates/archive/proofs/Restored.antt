@@ -9,7 +9,7 @@ use native.Mathlib.Numerals.{add-one}
 use native.Mathlib.Omega.{arith}
 use lib.Dec.{eqb}
 use lib.ListN.{length, take, getD, set, replicate, length-set, length-replicate, getD-replicate, List·getD-eq-default}
-use lib.Seq.{take-all, take-suc, getD-set-same, getD-set-other, ext-getD}
+use lib.Seq.{take-all, take-suc, getD-set-same, getD-set-other}
 use borrow.Author.Tests.{eqb-true, eqb-false, le-leb, lt-ltb}
 use Rattle.laws.specs.Choice.{no}
 use Rattle.laws.specs.Bits.{withBit}
@@ -17,7 +17,8 @@ use Rattle.laws.specs.Bytes.{part, splice, Bytes}
 use Rattle.laws.proofs.Bits.{withBit-lt}
 use Rattle.laws.proofs.Writes.{getD-replicate as getD-zeros}
 use Rattle.laws.proofs.Scan.{all-is, all-at}
-use Rattle.laws.proofs.Splice.{lt-or-ge, length-splice, getD-before, getD-in, getD-after, part-same, part-other, getD-part, length-part′}
+use Rattle.laws.proofs.Splice.{lt-or-ge, length-splice, getD-before, getD-in, getD-after, part-same, part-other}
+use Rattle.laws.proofs.Parts.{part-set}
 use Rattle.laws.proofs.Put.{putW-fits}
 use Rattle.geometry.specs.TagMemory.{memoryLength, mapPlace, mapBitOf}
 use Rattle.geometry.proofs.Places.{mapPlace-is, mapPlace-same, mapBitOf-lt, bit-inside, leaf-has-bit}
@@ -63,13 +64,6 @@ module _ (n : ℕ) (mem : List ℕ) (long : length mem ≡ memoryLength n) (t : 
 zeros-bytes : (k : ℕ) → Bytes (replicate k 0)
 unfolding Bytes
 zeros-bytes k i = rw (getD-zeros {A = ℕ} k i 0) (omega arith)
-
--- a part before a store
-part-set : (l : List ℕ) (a v c w : ℕ) → c + w ≤ a → c + w ≤ length l → part (set l a v) c w ≡ part l c w
-part-set l a v c w h g =
-    let lp : length (part (set l a v) c w) ≡ w = length-part′ (set l a v) c w (omega (arith, length-set l a v)) in
-    ext-getD 0 (part (set l a v) c w) (part l c w) (lp ∙ sym (length-part′ l c w g))
-    (λ i s. getD-part (set l a v) c w i (omega arith) ∙ getD-set-other l a (c + i) v 0 (λ e. absurd (omega arith)) ∙ sym (getD-part l c w i (omega arith)))
 
 -- one record put into a memory of n leaves
 module _ (n : ℕ) (mem : List ℕ) (r : Record) (long : length mem ≡ memoryLength n) (below : r .leaf < n) (size : length (r .content) ≡ 64) where

@@ -6,12 +6,11 @@ use mathlib.Core.Logic.{⊎-elim}
 use Prim.Native.Nat.{ℕ, zero, suc, _+_, _*_, _/_, _%_, _-_, _≤_, _<_}
 use native.Mathlib.Nat.{eq-or-lt-of-le, le-of-suc-le-suc, not-suc-le-zero}
 use native.Mathlib.Omega.{arith}
-use lib.Dec.{eqb, leb, ltb}
+use lib.Dec.{eqb, leb}
 use lib.ListN.{length, getD, replicate, length-append, length-replicate}
-use borrow.Author.Tests.{eq-eqb, eqb-false, le-leb, leb-true, ltb-true}
-use Rattle.laws.specs.Choice.{both, no}
+use borrow.Author.Tests.{eq-eqb, eqb-false, le-leb}
 use Rattle.laws.specs.Bytes.{part, bytes, numberAt}
-use Rattle.laws.proofs.Choice.{both-true, both-left, both-right, no-true, true-or-false}
+use Rattle.laws.proofs.Choice.{both-true, true-or-false}
 use Rattle.laws.proofs.Scan.{all-is, all-at}
 use Rattle.laws.proofs.Splice.{lt-or-ge}
 use Rattle.laws.proofs.Value.{length-bytes}
@@ -23,7 +22,7 @@ use Rattle.image.specs.Encode.{Form, Fit, Sized, Record, none, recordBytes, rec
 use Rattle.image.specs.Test.{wholeBlocks, imageBlock, numberOf, kindOf, versionOf, leavesOf, recordedOf, countOf, recordIn, recordAt, unusedZero, headSound, countRight, blockSound, soundAt, recordCount, lowest, goodAbove, goodRecord, versionIn, leavesIn, recordedIn, checksRight, testBy, same}
 use Rattle.laws.proofs.Parts.{piece, part-left, part-right, part-part, number, numberAt-part}
 use Rattle.image.proofs.Sound.{head-by, block-by, sound-head, sound-block, count-last, count-full, records-none, records-by}
-use Rattle.image.proofs.Rules.{is-accepted}
+use Rattle.image.proofs.Rules.{is-accepted, good-is, good-above, good-below, good-some}
 use Rattle.image.proofs.Records.{length-headFront, length-rest, length-headed, length-head, length-blockFront, length-records, length-record, length-payload, length-block, length-blocks, length-encode, next-few, next-full, next-bounds}
 use Rattle.archive.specs.Theorems.{listed, Good}
 use Rattle.image.proofs.Rows.{zeros-zero, same-self}
@@ -198,18 +197,17 @@ good-same n f g (suc p) e = rw (e p (omega arith), e (suc p) (omega arith))
 
 -- what a good record says
 module _ (n : ℕ) (f : ℕ → Record) (p : ℕ) (g : goodRecord n 0 f p ≡ true) where
-  parts : both (leb (lowest 0 f p) (f p .leaf)) (both (ltb (f p .leaf) n) (no (allZero (f p .content)))) ≡ true
-  unfolding goodRecord goodAbove
-  parts = g
+  above : goodAbove n (lowest 0 f p) (f p) ≡ true
+  above = sym (good-is n 0 f p (lowest 0 f p) refl) ∙ g
 
   pub leaf-above : lowest 0 f p ≤ f p .leaf
-  leaf-above = leb-true _ _ (both-left _ _ parts)
+  leaf-above = good-above n _ _ above
 
   pub leaf-below : f p .leaf < n
-  leaf-below = ltb-true _ _ (both-left _ _ (both-right _ _ parts))
+  leaf-below = good-below n _ _ above
 
   pub leaf-some : allZero (f p .content) ≡ false
-  leaf-some = no-true _ (both-right _ _ (both-right _ _ parts))
+  leaf-some = good-some n _ _ above
 
 pub under7 : (left i : ℕ) → i < 7 → i < left → i < next7 left
 under7 left i h l =

@@ -7,7 +7,7 @@ use native.Mathlib.Omega.{arith}
 use lib.ListN.{length, getD}
 use Rattle.laws.specs.Bytes.{part, splice, bytes}
 use Rattle.laws.proofs.Splice.{length-splice, part-same, part-other}
-use Rattle.laws.proofs.Put.{putW-fits, putW-not}
+use Rattle.laws.proofs.Put.{putW-fits}
 use Rattle.laws.proofs.Value.{value-4, value-bytes, length-bytes, numberAt-fits, numberAt-not}
 use Rattle.block.specs.Block.{groupAt, putGroup}
 
@@ -22,9 +22,6 @@ module _ (m : List ℕ) (a : ℕ) where
 
   pub putGroup-fits : (v : ℕ) → a + 4 ≤ length m → putGroup m a v ≡ splice m a (bytes 4 v)
   putGroup-fits v h = putW-fits 4 m a (bytes 4 v) h
-
-  pub putGroup-not : (v : ℕ) → length m < a + 4 → putGroup m a v ≡ m
-  putGroup-not v h = putW-not 4 m a (bytes 4 v) h
 
   -- a group that was put is read again
   pub groupAt-putGroup-same : (v : ℕ) → a + 4 ≤ length m → v < 4294967296 → groupAt (putGroup m a v) a ≡ v

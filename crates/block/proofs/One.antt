@@ -4,7 +4,7 @@ use mathlib.Core.Bool.{Bool}
 use mathlib.Core.List.{List}
 use Prim.Native.Nat.{ℕ}
 use Rattle.laws.specs.Choice.{pick}
-use Rattle.laws.specs.Bytes.{part, fits, putW, value}
+use Rattle.laws.specs.Bytes.{part, fits, putW, value, bytes, numberAt}
 use Rattle.laws.specs.Bits.{bitOf}
 use Rattle.geometry.proofs.One.{one}
 use Rattle.block.specs.Block.{blockOr0, groupAt, putGroup, bitAt, putBit, allZero}
@@ -21,6 +21,12 @@ copy-block-one m at row from = one
 
 pub number-at-one : (m : List ℕ) (at : ℕ) {r s : ℕ} → r ≡ value (part m at 4) → s ≡ value (part m at 4) → r ≡ s
 number-at-one m at = one
+
+pub four-at-one : (m : List ℕ) (at : ℕ) {r s : ℕ} → r ≡ numberAt 4 m at → s ≡ numberAt 4 m at → r ≡ s
+four-at-one m at = one
+
+pub put-four-one : (m : List ℕ) (at v : ℕ) {r s : List ℕ} → r ≡ putW 4 m at (bytes 4 v) → s ≡ putW 4 m at (bytes 4 v) → r ≡ s
+put-four-one m at v = one
 
 pub group-at-one : (m : List ℕ) (at : ℕ) {r s : ℕ} → r ≡ groupAt m at → s ≡ groupAt m at → r ≡ s
 group-at-one m at = one

@@ -1,4 +1,4 @@
-// Blocks, groups, bits and zero bytes in lent rows of bytes: 01 "The tag memory".
+// Blocks, numbers of four bytes, groups, bits and zero bytes in lent rows of bytes: 01 "The tag memory".
 // No public function has a `requires`: a read of what is not there gives zero, a write of it changes nothing.
 use geometry::Geometry;
 ghost use mathlib.Core.Path.{_≡_};
@@ -140,30 +140,44 @@ pub fn copy_block(memory: &mut [u8], at: usize, row: &[u8], from: usize)
     );
 }
 
-// The group whose four bytes begin at `at`; 0 where they are not all there.
-pub fn group_at(row: &[u8], at: usize) -> u32
-    ensures { λ r. ⌜ r ≡ groupAt (now (row .entry)) at ⌝ }
+// The number whose four bytes begin at `at`; 0 where they are not all there.
+pub fn four_at(row: &[u8], at: usize) -> u32
+    ensures { λ r. ⌜ r ≡ numberAt 4 (now (row .entry)) at ⌝ }
 {
-    if row.len() < Geometry::GROUP_LEN {
+    if row.len() < 4 {
         return 0;
     }
-    if row.len() - Geometry::GROUP_LEN < at {
+    if row.len() - 4 < at {
         return 0;
     }
     word_at(row, at)
 }
 
-// Group v into its four bytes from `at`; where they do not fit, nothing changes.
-pub fn put_group(row: &mut [u8], at: usize, v: u32)
-    ensures { λ _. ⌜ now (row .exit) ≡ putGroup (now (row .entry)) at v ⌝ }
+// The number v into its four bytes from `at`; where they do not fit, nothing changes.
+pub fn put_four(row: &mut [u8], at: usize, v: u32)
+    ensures { λ _. ⌜ now (row .exit) ≡ putW 4 (now (row .entry)) at (bytes 4 v) ⌝ }
 {
-    if row.len() < Geometry::GROUP_LEN {
+    if row.len() < 4 {
         return;
     }
-    if row.len() - Geometry::GROUP_LEN < at {
+    if row.len() - 4 < at {
         return;
     }
     put_word(row, at, v);
+}
+
+// The group at `at`; 0 where its bytes are not all there.
+pub fn group_at(row: &[u8], at: usize) -> u32
+    ensures { λ r. ⌜ r ≡ groupAt (now (row .entry)) at ⌝ }
+{
+    four_at(row, at)
+}
+
+// Group v into its bytes from `at`; where they do not fit, nothing changes.
+pub fn put_group(row: &mut [u8], at: usize, v: u32)
+    ensures { λ _. ⌜ now (row .exit) ≡ putGroup (now (row .entry)) at v ⌝ }
+{
+    put_four(row, at, v);
 }
 
 // Every byte is zero: no bit is 1 in any of them.

@@ -20,7 +20,7 @@ use Rattle.tracker.specs.Tracker.{idle, mostTurns}
 use Rattle.rules.specs.State.{State, trackerAt}
 use Rattle.coding.specs.Words.{trackerPlace, stateWords, phaseNumber, shapeCoded, trackerCoded, trackersCoded, coded, trackerIn, trackersTo, shapeIn, decoded, codesTracker, codesShape, codesLine, codes}
 use Rattle.coding.specs.Fields.{TrackerFits, Fits}
-use Rattle.coding.proofs.Stores.{part-4, part-6}
+use Rattle.laws.proofs.Stores.{part-4, part-6}
 use Rattle.coding.proofs.Trackers.{phaseNumber-phaseOf, phaseNumber-below, one-eqb, one-below, trackersTo-coded, trackers-append, trackers-one, trackers-split, length-before}
 use Rattle.coding.proofs.Turns.{narrow, coding, length-trackersTo, length-coded}
 

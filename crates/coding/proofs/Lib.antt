@@ -1,4 +1,3 @@
-pub mod Stores
 pub mod Trackers
 pub mod Turns
 pub mod Inverse

@@ -24,7 +24,7 @@ use Rattle.tracker.specs.declared.Answer.{Answer}
 use Rattle.tracker.specs.Answer.{says}
 use Rattle.coding.specs.Answer.{answerCoded}
 use Rattle.coding.specs.Words.{trackerPlace, stateWords, shapeCoded, coded, phaseOf, trackerCoded, trackersCoded, trackerIn, trackersTo, codesTracker, codesLine, codes}
-use Rattle.coding.proofs.Stores.{part-1, splice-all}
+use Rattle.laws.proofs.Stores.{part-1, splice-all}
 use Rattle.coding.proofs.Trackers.{length-trackers, trackers-more}
 
 -- the phases by their tests

@@ -6,7 +6,8 @@ use Prim.Native.Nat.{ℕ}
 use lib.ListN.{replicate}
 use Rattle.laws.specs.Bytes.{putW}
 use Rattle.geometry.proofs.One.{one}
-use Rattle.image.specs.Test.{formIn, headSound, countRight, blockSound, recordGood, versionIn, leavesIn, recordedIn, imageTest}
+use Rattle.image.specs.Encode.{Record}
+use Rattle.image.specs.Test.{formIn, headSound, countRight, blockSound, goodAbove, versionIn, leavesIn, recordedIn, imageTest}
 
 pub head-sound-one : (block : List ℕ) {r s : Bool} → r ≡ headSound (formIn block) block → s ≡ headSound (formIn block) block → r ≡ s
 head-sound-one block = one
@@ -17,8 +18,8 @@ count-right-one last c = one
 pub block-sound-one : (last : Bool) (j : ℕ) (block : List ℕ) {r s : Bool} → r ≡ blockSound last j block → s ≡ blockSound last j block → r ≡ s
 block-sound-one last j block = one
 
-pub record-good-one : (n low : ℕ) (block : List ℕ) (i : ℕ) {r s : Bool} → r ≡ recordGood n low block i → s ≡ recordGood n low block i → r ≡ s
-record-good-one n low block i = one
+pub record-good-one : (n low : ℕ) (a : Record) {r s : Bool} → r ≡ goodAbove n low a → s ≡ goodAbove n low a → r ≡ s
+record-good-one n low a = one
 
 pub version-in-one : (image : List ℕ) {r s : ℕ} → r ≡ versionIn image → s ≡ versionIn image → r ≡ s
 version-in-one image = one

@@ -8,16 +8,16 @@ use native.Mathlib.Numerals.{add-one}
 use native.Mathlib.Omega.{arith}
 use lib.ListN.{length}
 use lib.Dec.{eqb, leb, ltb}
-use borrow.Author.Tests.{eq-eqb, ne-eqb, eqb-true, lt-ltb, le-ltb, ltb-true}
+use borrow.Author.Tests.{eq-eqb, ne-eqb, eqb-true, lt-ltb, le-ltb, ltb-true, leb-true}
 use Rattle.laws.specs.Choice.{pick, both, no}
 use Rattle.laws.specs.Scan.{all}
-use Rattle.laws.proofs.Choice.{both-when, both-left, both-right, both-true, both-false-left, both-false-right, true-or-false}
-use Rattle.laws.proofs.Scan.{all-zero, all-more, all-at, all-is, all-same, all-fails}
+use Rattle.laws.proofs.Choice.{both-left, both-right, both-true, both-false-left, both-false-right, no-true, true-or-false, same-truth}
+use Rattle.laws.proofs.Scan.{all-zero, all-more, all-at, all-is, all-same, all-fails, all-add}
 use Rattle.laws.proofs.Splice.{lt-or-ge}
 use Rattle.block.specs.Block.{allZero}
 use Rattle.sums.specs.Check.{checkRight}
 use Rattle.image.specs.Encode.{Form, Record}
-use Rattle.image.specs.Test.{wholeBlocks, imageBlock, countOf, leavesIn, recordedIn, recordIn, recordAt, headSound, blockSound, soundAt, recordCount, lowest, goodAbove, goodRecord, recordGood, lengthRight, checksRight, rulesKept, testBy}
+use Rattle.image.specs.Test.{wholeBlocks, imageBlock, countOf, leavesIn, recordedIn, recordIn, recordAt, headSound, blockSound, soundAt, recordCount, lowest, goodAbove, goodRecord, lengthRight, checksRight, rulesKept, testBy}
 use Rattle.image.proofs.Sound.{sound-head, sound-block, sound-count, count-bounds, count-full, records-none, records-by, records-fit}
 
 -- records
@@ -25,18 +25,19 @@ pub good-by : (n low : ℕ) (r : Record) → goodAbove n low r ≡ both (leb low
 unfolding goodAbove
 good-by n low r = refl
 
-module _ (n low : ℕ) (b : List ℕ) (i : ℕ) where
-  pub record-short : (length b ≡ 512 → ⊥) → recordGood n low b i ≡ false
-  unfolding recordGood
-  record-short h = both-false-left _ _ (both-false-left _ _ (ne-eqb _ _ h))
+-- what a good record says
+module _ (n low : ℕ) (r : Record) (good : goodAbove n low r ≡ true) where
+  all-three : both (leb low (r .leaf)) (both (ltb (r .leaf) n) (no (allZero (r .content)))) ≡ true
+  all-three = sym (good-by n low r) ∙ good
 
-  pub record-past : 7 ≤ i → recordGood n low b i ≡ false
-  unfolding recordGood
-  record-past h = both-false-left _ _ (both-false-right _ _ (le-ltb i 7 h))
+  pub good-above : low ≤ r .leaf
+  good-above = leb-true _ _ (both-left _ _ all-three)
 
-  pub record-by : length b ≡ 512 → i < 7 → recordGood n low b i ≡ goodAbove n low (recordIn b i)
-  unfolding recordGood
-  record-by h l = both-when _ _ (both-true _ _ (eq-eqb _ _ h) (lt-ltb i 7 l))
+  pub good-below : r .leaf < n
+  good-below = ltb-true _ _ (both-left _ _ (both-right _ _ all-three))
+
+  pub good-some : allZero (r .content) ≡ false
+  good-some = no-true _ (both-right _ _ (both-right _ _ all-three))
 
 pub lowest-none : (low : ℕ) (records : ℕ → Record) → lowest low records 0 ≡ low
 unfolding lowest
@@ -134,20 +135,12 @@ pub kept-block : (F : Form) (image : List ℕ) (j : ℕ) → keptTo F image (suc
 unfolding keptTo
 kept-block F image j = refl
 
--- a test of a + c numbers is one of the first a and one of the c after them
-all-add : (p : ℕ → Bool) (a c : ℕ) → all p a ≡ true → all (λ i. p (a + i)) c ≡ true → all p (a + c) ≡ true
-all-add p a c h g =
-    all-is p (a + c) (λ k l.
-    ⊎-elim
-    (λ (s : k < a). all-at p a h k s)
-    (λ (s : a ≤ k). let e : a + (k - a) ≡ k = omega arith in ap p (sym e) ∙ all-at (λ i. p (a + i)) c g (k - a) (omega arith))
-    (lt-or-ge k a))
-
-both-same : (a b : Bool) → (a ≡ true → b ≡ true) → (b ≡ true → a ≡ true) → a ≡ b
-both-same true true f g = refl
-both-same true false f g = sym (f refl)
-both-same false true f g = g refl
-both-same false false f g = refl
+-- record 7 j + i of an image is record i of its block
+pub record-in : (image : List ℕ) (j i : ℕ) → i < 7 → recordAt image (7 * j + i) ≡ recordIn (imageBlock image (suc j)) i
+record-in image j i l =
+    let d : 1 + (7 * j + i) / 7 ≡ suc j = omega arith in
+    let r : (7 * j + i) % 7 ≡ i = omega arith in
+    rw (d, r) refl
 
 module _ (F : Form) (image : List ℕ) where
   abbrev W : ℕ
@@ -159,25 +152,18 @@ module _ (F : Form) (image : List ℕ) where
   abbrev at : ℕ → List ℕ
   at j = imageBlock image (suc j)
 
-  -- record 7 j + i of the image is record i of its block
-  record-in : (j i : ℕ) → i < 7 → recordAt image (7 * j + i) ≡ recordIn (at j) i
-  record-in j i l =
-      let d : 1 + (7 * j + i) / 7 ≡ suc j = omega arith in
-      let r : (7 * j + i) % 7 ≡ i = omega arith in
-      rw (d, r) refl
-
   lowest-in : (j i : ℕ) → i ≤ 7 → lowest 0 (recordAt image) (7 * j + i) ≡ lowest (lowest 0 (recordAt image) (7 * j)) (recordIn (at j)) i
   lowest-in j zero l =
       let e : 7 * j + zero ≡ 7 * j = omega arith in
       ap (lowest 0 (recordAt image)) e ∙ sym (lowest-none (lowest 0 (recordAt image) (7 * j)) (recordIn (at j)))
   lowest-in j (suc i) l =
       let e : 7 * j + suc i ≡ 7 * j + i + 1 = omega arith in
-      ap (lowest 0 (recordAt image)) e ∙ lowest-more 0 (recordAt image) (7 * j + i) ∙ ap (λ (r : Record). r .leaf + 1) (record-in j i (omega arith))
+      ap (lowest 0 (recordAt image)) e ∙ lowest-more 0 (recordAt image) (7 * j + i) ∙ ap (λ (r : Record). r .leaf + 1) (record-in image j i (omega arith))
       ∙ sym (lowest-more (lowest 0 (recordAt image) (7 * j)) (recordIn (at j)) i) ∙ ap (lowest (lowest 0 (recordAt image) (7 * j)) (recordIn (at j))) (add-one i)
 
   good-in : (j i : ℕ) → i < 7 → goodRecord n 0 (recordAt image) (7 * j + i) ≡ goodRecord n (lowest 0 (recordAt image) (7 * j)) (recordIn (at j)) i
   unfolding goodRecord
-  good-in j i l = rw (lowest-in j i (omega arith), record-in j i l)
+  good-in j i l = rw (lowest-in j i (omega arith), record-in image j i l)
 
   -- the leaf number after the last record of a full block
   pub lowest-next : (j : ℕ) → lowest (lowest 0 (recordAt image) (7 * j)) (recordIn (at j)) 7 ≡ lowest 0 (recordAt image) (7 * suc j)
@@ -268,7 +254,7 @@ module _ (F : Form) (image : List ℕ) where
   pub rules-are : (j : ℕ) → suc j ≡ W → rulesKept F image ≡ both (keptTo F image j) (eqb (recordedIn image) (recordCount image))
   unfolding rulesKept
   rules-are j e =
-      both-same _ _
+      same-truth _ _
       (λ r. both-true _ _ (all-kept (both-left _ _ r) (both-right _ _ (both-right _ _ r)) j (omega arith)) (both-left _ _ (both-right _ _ r)))
       (λ r. both-true _ _ (ap (all (soundAt F image)) (sym e) ∙ kept-all j (both-left _ _ r)) (both-true _ _ (both-right _ _ r) (kept-last j e (both-left _ _ r))))
 

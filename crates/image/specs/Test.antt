@@ -103,10 +103,6 @@ lowest low records (suc p) = records p .leaf + 1
 unfoldable pub goodRecord : ℕ → ℕ → (ℕ → Record) → ℕ → Bool
 goodRecord n low records p = goodAbove n (lowest low records p) (records p)
 
--- record i of a block is there and good above the leaves below `low`
-unfoldable pub recordGood : ℕ → ℕ → List ℕ → ℕ → Bool
-recordGood n low b i = both (both (eqb (length b) 512) (ltb i 7)) (goodAbove n low (recordIn b i))
-
 -- "10: image length 0 or not a multiple of 512, or a wrong check"
 unfoldable pub lengthRight : List ℕ → Bool
 lengthRight image = both (ltb 0 (length image)) (eqb (length image % 512) 0)

@@ -9,7 +9,7 @@ ghost use lib.Dec.{eqb};
 ghost use Rattle.laws.specs.Choice.{both, either};
 ghost use Rattle.laws.specs.Bytes.{putW};
 ghost use Rattle.laws.specs.Scan.{all};
-ghost use Rattle.image.specs.Test.{countOf, unusedZero, headSound, countRight, blockSound, versionIn, leavesIn, recordedIn, recordCount, recordIn, lowest, goodRecord, recordGood, formIn, imageTest};
+ghost use Rattle.image.specs.Test.{countOf, unusedZero, headSound, countRight, blockSound, versionIn, leavesIn, recordedIn, recordCount, recordIn, lowest, goodAbove, goodRecord, formIn, imageTest};
 
 // An image block's bytes, where its records begin, where the first one's 64 bytes begin, where its check stands; a record's bytes, and the records of a full block.
 pub const BLOCK: usize = 512;
@@ -58,10 +58,10 @@ pub fn head_sound(block: &[u8]) -> bool
     if block.len() != BLOCK {
         return false;
     }
-    let number = sums::four_at(block, 0);
+    let number = block::four_at(block, 0);
     let kind = sums::two_at(block, 4);
     let version = sums::two_at(block, 6);
-    let n = sums::four_at(block, 8);
+    let n = block::four_at(block, 8);
     let zeros = unused_zero(block, 16);
     let limits = Geometry::in_limits(n as u64);
     and(
@@ -91,7 +91,7 @@ pub fn block_sound(last: bool, j: u64, block: &[u8]) -> bool
     if !count_right(last, count) {
         return false;
     }
-    let number = sums::four_at(block, 0);
+    let number = block::four_at(block, 0);
     let kind = sums::two_at(block, 4);
     let zeros = unused_zero(block, RECORDS + RECORD * (count as usize));
     and(number as u64 == j, and(kind == 2, zeros))
@@ -109,19 +109,11 @@ fn record_count(image: &[u8]) -> usize
     FULL * (whole - 2) + (sums::two_at(&image[at..at + BLOCK], 6) as usize)
 }
 
-// Record i of a block is good above the leaves below `low`; a record that the block has no room for is not.
-pub fn record_good(n: u32, low: u64, block: &[u8], i: usize) -> bool
-    ensures { λ r. ⌜ r ≡ recordGood n low (now (block .entry)) i ⌝ }
+// A record of that leaf and those bytes is good above the leaves below `low`.
+pub fn record_good(n: u32, low: u64, leaf: u32, content: &[u8]) -> bool
+    ensures { λ r. ⌜ r ≡ goodAbove n low (record { leaf = leaf; content = now (content .entry) }) ⌝ }
 {
-    if block.len() != BLOCK {
-        return false;
-    }
-    if FULL <= i {
-        return false;
-    }
-    let leaf = sums::four_at(block, RECORDS + RECORD * i);
-    let at = CONTENT + RECORD * i;
-    let empty = block::all_zero(&block[at..at + Geometry::BLOCK_LEN]);
+    let empty = block::all_zero(content);
     and(low <= leaf as u64, and(leaf < n, !empty))
 }
 
@@ -139,14 +131,16 @@ fn records_good(n: u32, low: u64, block: &[u8], count: usize) -> Kept
     let mut i: usize = 0;
     let mut next = low;
     while i < count {
-        let good = record_good(n, next, block, i);
+        let leaf = block::four_at(block, RECORDS + RECORD * i);
+        let at = CONTENT + RECORD * i;
+        let good = record_good(n, next, leaf, &block[at..at + Geometry::BLOCK_LEN]);
         if !good {
             return Kept {
                 good: false,
                 low: next,
             };
         }
-        next = sums::four_at(block, RECORDS + RECORD * i) as u64 + 1;
+        next = leaf as u64 + 1;
         i += 1;
     }
     Kept {
@@ -185,14 +179,14 @@ pub fn version_in(image: &[u8]) -> u16
 pub fn leaves_in(image: &[u8]) -> u32
     ensures { λ r. ⌜ r ≡ leavesIn (now (image .entry)) ⌝ }
 {
-    sums::four_at(image, 8)
+    block::four_at(image, 8)
 }
 
 // m in the head of an image.
 pub fn recorded_in(image: &[u8]) -> u32
     ensures { λ r. ⌜ r ≡ recordedIn (now (image .entry)) ⌝ }
 {
-    sums::four_at(image, 12)
+    block::four_at(image, 12)
 }
 
 // The test of an image of whole blocks, one block after the other: 10 at the first wrong check; after the last 11 where another rule is broken.

@@ -8,4 +8,5 @@ pub mod Bits
 pub mod Pigeon
 pub mod Refusal
 pub mod Parts
+pub mod Stores
 pub mod Count

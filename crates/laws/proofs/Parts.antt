@@ -4,8 +4,8 @@ use mathlib.Core.List.{List, [], _++_}
 use mathlib.Core.Logic.{⊎-elim}
 use Prim.Native.Nat.{ℕ, _+_, _^_, _≤_, _<_}
 use native.Mathlib.Omega.{arith}
-use lib.ListN.{length, take, drop, getD, length-append, length-drop, List·getD-eq-default}
-use lib.Seq.{ext-getD, take-all, take-at, drop-at, drop-append-le, drop-append-add, take-append-le, take-add, drop-drop}
+use lib.ListN.{length, take, drop, getD, set, length-set, length-append, length-drop, List·getD-eq-default}
+use lib.Seq.{ext-getD, getD-set-other, take-all, take-at, drop-at, drop-append-le, drop-append-add, take-append-le, take-add, drop-drop}
 use Rattle.laws.specs.Bytes.{part, value, bytes, numberAt, Bytes}
 use Rattle.laws.proofs.Splice.{lt-or-ge, getD-part, length-part′}
 use Rattle.laws.proofs.Value.{length-bytes, value-bytes, bytes-value, numberAt-fits}
@@ -88,3 +88,10 @@ number-back l a w v B h e =
 pub take-part : (l : List ℕ) (a w : ℕ) → take (a + w) l ≡ take a l ++ part l a w
 unfolding part
 take-part l a w = take-add a w l
+
+-- a part before a store
+pub part-set : (l : List ℕ) (a v c w : ℕ) → c + w ≤ a → c + w ≤ length l → part (set l a v) c w ≡ part l c w
+part-set l a v c w h g =
+    let lp : length (part (set l a v) c w) ≡ w = length-part′ (set l a v) c w (omega (arith, length-set l a v)) in
+    ext-getD 0 (part (set l a v) c w) (part l c w) (lp ∙ sym (length-part′ l c w g))
+    (λ i s. getD-part (set l a v) c w i (omega arith) ∙ getD-set-other l a (c + i) v 0 (λ e. absurd (omega arith)) ∙ sym (getD-part l c w i (omega arith)))

@@ -2,7 +2,7 @@
 use mathlib.Core.Path.{_≡_, refl, sym, _∙_, subst, ap}
 use mathlib.Core.Bool.{Bool, true, false}
 use mathlib.Core.Logic.{_⊎_, ⊎-elim}
-use Prim.Native.Nat.{ℕ, zero, suc, _+_, _≤_, _<_}
+use Prim.Native.Nat.{ℕ, zero, suc, _+_, _-_, _≤_, _<_}
 use native.Mathlib.Nat.{eq-or-lt-of-le, le-of-suc-le-suc}
 use native.Mathlib.Numerals.{add-one}
 use native.Mathlib.Omega.{arith}
@@ -262,3 +262,12 @@ countFrom-same p q a n h = count-same (from a p) (from a q) n (λ k l. from-same
 pub countFrom-0 : (p : ℕ → Bool) (n : ℕ) → countFrom p 0 n ≡ count p n
 unfolding countFrom
 countFrom-0 p n = count-same (from 0 p) p n (λ k l. from-is p 0 k (omega arith))
+
+-- a test of a + c numbers is one of the first a and one of the c after them
+pub all-add : (p : ℕ → Bool) (a c : ℕ) → all p a ≡ true → all (λ i. p (a + i)) c ≡ true → all p (a + c) ≡ true
+all-add p a c h g =
+    all-is p (a + c) (λ k l.
+    ⊎-elim
+    (λ (s : k < a). all-at p a h k s)
+    (λ (s : a ≤ k). let e : a + (k - a) ≡ k = omega arith in ap p (sym e) ∙ all-at (λ i. p (a + i)) c g (k - a) (omega arith))
+    (lt-or-ge k a))

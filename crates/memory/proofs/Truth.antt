@@ -1,7 +1,7 @@
 -- The true test means 01's sentence, both ways.
-use mathlib.Core.Path.{_≡_, refl, ap, sym, _∙_}
+use mathlib.Core.Path.{_≡_, ap, sym, _∙_}
 use mathlib.Core.List.{List}
-use mathlib.Core.Bool.{Bool, true, false, not}
+use mathlib.Core.Bool.{true, false, not}
 use mathlib.Core.Logic.{⊎-elim}
 use Prim.Native.Nat.{ℕ, _+_, _-_, _*_, _/_, _%_, _≤_, _<_}
 use native.Mathlib.Omega.{arith}
@@ -11,12 +11,12 @@ use lib.Dec.{eqb}
 use lib.ListN.{length, getD, List·getD-eq-default}
 use borrow.Author.Tests.{eq-eqb, ne-eqb, eqb-true, eqb-false, lt-ltb, le-ltb, not-true}
 use Rattle.geometry.proofs.Places.{mapPlace-byte, mapBitOf-byte, leaf-has-bit, bit-after-leaves}
-use Rattle.laws.specs.Choice.{both, implies, no}
+use Rattle.laws.specs.Choice.{both, implies}
 use Rattle.laws.specs.Bits.{bitOf}
 use Rattle.laws.specs.Bytes.{Bytes}
 use Rattle.laws.specs.Scan.{all}
 use Rattle.laws.proofs.Bits.{bitOf-0, value-bit, lowest-one, lowest-off, others-stay}
-use Rattle.laws.proofs.Choice.{not-both-ways, true-or-false}
+use Rattle.laws.proofs.Choice.{not-both-ways, true-or-false, no-not}
 use Rattle.laws.proofs.Scan.{all-at, all-is, all-fails}
 use Rattle.laws.proofs.Splice.{lt-or-ge, getD-part}
 use Rattle.geometry.specs.TagMemory.{mapBlocks, blockPlace, mapPlace, mapBitOf}
@@ -26,11 +26,6 @@ use Rattle.block.proofs.Zero.{all-some, allZero-some, allZero-not}
 use Rattle.memory.specs.PlainReading.{leafBit}
 use Rattle.memory.specs.True.{blockAt, trueAt, mapWord, trueWord, isTrue, SomeByte, TrueMemory}
 use Rattle.memory.proofs.Parts.{part-short}
-
-no-not : (b : Bool) → no b ≡ not b
-unfolding no
-no-not true = refl
-no-not false = refl
 
 pub leafBit-lt : (n : ℕ) (m : List ℕ) (k : ℕ) → leafBit n m k < 2
 unfolding leafBit
@@ -74,7 +69,7 @@ module _ (n : ℕ) (m : List ℕ) where
 
   pub trueAt-1 : (k : ℕ) → leafBit n m k ≡ 1 → k < n → trueAt n m k ≡ not (allZero (blockAt m k))
   unfolding trueAt implies both
-  trueAt-1 k h l = rw (eq-eqb (leafBit n m k) 1 h, lt-ltb k n l) (no-not (allZero (blockAt m k)))
+  trueAt-1 k h l = rw (eq-eqb (leafBit n m k) 1 h, lt-ltb k n l) (sym (no-not (allZero (blockAt m k))))
 
   -- the test comes out true: the statement holds
   pub true-means : isTrue n m ≡ true → TrueMemory n m

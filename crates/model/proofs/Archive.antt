@@ -9,6 +9,8 @@ use lib.Dec.{eqb}
 use lib.ListN.{length, set}
 use Rattle.laws.specs.Choice.{pick, both}
 use Rattle.laws.specs.Refusal.{refusal}
+use Rattle.laws.proofs.Value.{splice-sets}
+use Rattle.laws.proofs.Stores.{splice-all}
 use Rattle.laws.proofs.Refusal.{refusal-0, refusal-first, unless-0, unless-no}
 use Rattle.geometry.specs.TagMemory.{memoryLength}
 use Rattle.image.specs.Test.{lengthRight, checksRight, rulesKept, leavesIn, formOf, imageTest, testBy}
@@ -16,7 +18,6 @@ use Rattle.image.specs.Calls.{restoringRefusal}
 use Rattle.coding.specs.Answer.{refusedBy}
 use Rattle.reader.specs.declared.Reading.{Reading}
 use Rattle.reader.specs.Read.{readingAt}
-use Rattle.coding.proofs.Stores.{stores, splice-all}
 use Rattle.model.specs.Archive.{restoringAnswer, recordRead}
 
 -- no refusal of restoring is above 11
@@ -66,5 +67,5 @@ module _ (image : List ℕ) (p : ℕ) (words : List ℕ) where
     pub record-is : r .found ≡ true → (1, set (set words 0 (r .leaf)) 1 (r .start)) ≡ recordRead image p words
     record-is f =
         let z : set (set words 0 (r .leaf)) 1 (r .start) ≡ r .leaf ∷ r .start ∷ [] =
-        stores words 0 (r .leaf ∷ r .start ∷ []) (omega arith) ∙ splice-all words (r .leaf ∷ r .start ∷ []) (sym e) in
+        splice-sets (r .leaf ∷ r .start ∷ []) words 0 (omega arith) ∙ splice-all words (r .leaf ∷ r .start ∷ []) (sym e) in
         rw z (sym (record-by ∙ rw f))

@@ -56,7 +56,7 @@ pub fn read_at(image: &[u8], place: u64) -> Reading
             next: place,
         };
     }
-    let leaf = sums::four_at(
+    let leaf = block::four_at(
         &image[at..at + image::BLOCK],
         image::RECORDS + image::RECORD * slot,
     );

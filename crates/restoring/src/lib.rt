@@ -13,7 +13,7 @@ fn put_record(n: u32, memory: &mut [u8], row: &[u8], i: usize)
     requires { ⌜ (length (now row) ≡ 512) × (i < 7) ⌝ }
     ensures { λ _. ⌜ now (memory .exit) ≡ putRecord n (now (memory .entry)) (recordIn (now (row .entry)) i) ⌝ }
 {
-    let leaf = sums::four_at(row, image::RECORDS + image::RECORD * i);
+    let leaf = block::four_at(row, image::RECORDS + image::RECORD * i);
     block::copy_block(
         memory,
         Geometry::block_place(leaf),

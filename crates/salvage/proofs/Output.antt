@@ -7,7 +7,7 @@ use native.Mathlib.Omega.{arith}
 use lib.ListN.{length, take, getD, set, length-take}
 use lib.Seq.{take-all}
 use Rattle.laws.specs.Bytes.{part, splice, putW}
-use Rattle.laws.proofs.Splice.{lt-or-ge, length-splice, length-part′, is-splice, getD-before, getD-in, getD-after, part-same}
+use Rattle.laws.proofs.Splice.{lt-or-ge, length-splice, length-part′, part-same, splice-over}
 use Rattle.laws.proofs.Put.{putW-fits}
 use Rattle.laws.proofs.Parts.{part-part}
 use Rattle.laws.proofs.Writes.{splice-none, splice-then, splice-copy}
@@ -17,18 +17,6 @@ use Rattle.image.proofs.Records.{closed-records, records-none, records-more, le
 use Rattle.writing.proofs.Blocks.{image-law}
 use Rattle.salvage.specs.Walk.{recordPlace, closedAt, withRecords, lastClosed, withEntries}
 use Rattle.salvage.proofs.Walk.{record-mid, record-full, last-full, last-part, entry-set, with-more, entries-more}
-
--- a splice that covers another
-splice-over : (m : List ℕ) (a : ℕ) (b : List ℕ) (c : ℕ) (d : List ℕ) → a ≤ c → c + length d ≤ a + length b → a + length b ≤ length m
-    → splice (splice m c d) a b ≡ splice m a b
-splice-over m a b c d h g l =
-    let hd : c + length d ≤ length m = omega arith in
-    let lm : length (splice m c d) ≡ length m = length-splice m c d hd in
-    let hb : a + length b ≤ length (splice m c d) = omega arith in
-    is-splice m a b l (splice (splice m c d) a b) (length-splice (splice m c d) a b hb ∙ lm)
-    (λ i u. getD-before (splice m c d) a b hb i u ∙ getD-before m c d hd i (omega arith))
-    (λ j u. getD-in (splice m c d) a b hb j u)
-    (λ i u. getD-after (splice m c d) a b hb i u ∙ getD-after m c d hd i (omega arith))
 
 next-7 : (left : ℕ) → 7 ≤ left → next7 left ≡ 7
 next-7 left h =

@@ -3,17 +3,16 @@ use mathlib.Core.Path.{_≡_, refl, ap, sym, _∙_, subst}
 use mathlib.Core.List.{List, [], _∷_, _++_}
 use mathlib.Core.Bool.{true}
 use mathlib.Core.Logic.{⊎-elim}
-use Prim.Native.Nat.{ℕ, zero, suc, _+_, _*_, _/_, _%_, _-_, _≤_, _<_}
+use Prim.Native.Nat.{ℕ, zero, suc, _+_, _*_, _-_, _≤_, _<_}
 use native.Mathlib.Numerals.{add-one}
 use native.Mathlib.Omega.{arith}
 use lib.ListN.{length, getD, List·getD-append}
 use lib.Seq.{ext-getD}
 use lib.Dec.{eqb}
-use borrow.Author.Tests.{leb-true, ltb-true}
 use Rattle.laws.specs.Bytes.{splice, Bytes}
 use Rattle.laws.specs.Scan.{all}
 use Rattle.laws.specs.Refusal.{refusal}
-use Rattle.laws.proofs.Choice.{both-true, both-left, both-right}
+use Rattle.laws.proofs.Choice.{both-true}
 use Rattle.laws.proofs.Scan.{all-more, all-at, all-is, all-zero}
 use Rattle.laws.proofs.Splice.{lt-or-ge}
 use Rattle.laws.proofs.Writes.{splice-none}
@@ -23,7 +22,7 @@ use Rattle.image.specs.Encode.{Form, version2, Record, none, next7, encode}
 use Rattle.image.specs.Test.{wholeBlocks, imageBlock, countOf, recordIn, recordAt, blockSound, soundAt, recordCount, lowest, goodAbove, goodRecord, formOf, versionIn, leavesIn, recordedIn, checksRight, testBy, imageTest}
 use Rattle.image.specs.Calls.{recordsTo, recordsIn}
 use Rattle.image.proofs.Sound.{form-new, fit-2, sound-head, sound-block}
-use Rattle.image.proofs.Rules.{Accepted, accepted, good-is}
+use Rattle.image.proofs.Rules.{Accepted, accepted, good-is, good-above, good-below, record-in}
 use Rattle.image.proofs.Records.{length-recordsTo, recordsTo-at, next-few, next-full, next-bounds}
 use Rattle.archive.specs.Theorems.{listed, Good}
 use Rattle.archive.proofs.Written.{good-same, leaves-are, recorded-are, record-is}
@@ -63,10 +62,9 @@ module _ (n : ℕ) (rs : List Record) (r : Record) (R : Rising n rs) (g : goodAb
   new-good = good-is n 0 (listed more) (length rs) (above rs) least ∙ ap (goodAbove n (above rs)) (getD-last rs r none) ∙ g
 
   rising-more : Rising n more
-  unfolding goodAbove
   rising-more =
-      let a : above rs ≤ r .leaf = leb-true (above rs) (r .leaf) (both-left _ _ g) in
-      let b : r .leaf < n = ltb-true (r .leaf) n (both-left _ _ (both-right _ _ g)) in
+      let a : above rs ≤ r .leaf = good-above n (above rs) r g in
+      let b : r .leaf < n = good-below n (above rs) r g in
       record {
         each = ap (all (goodRecord n 0 (listed more))) (length-more rs r)
             ∙ all-more (goodRecord n 0 (listed more)) (length rs)
@@ -181,12 +179,6 @@ module _ (image : List ℕ) (A : Accepted (formOf image) image) where
   unfolding used
   all-used j l = both-true _ _ (right-at (suc j) l) (block-ok j l)
 
-  record-in : (j i : ℕ) → i < 7 → recordAt image (7 * j + i) ≡ recordIn (at j) i
-  record-in j i l =
-      let d : 1 + (7 * j + i) / 7 ≡ suc j = omega arith in
-      let r : (7 * j + i) % 7 ≡ i = omega arith in
-      rw (d, r) refl
-
   good-at : (p : ℕ) → p < recordCount image → goodAbove N (above (recordsTo (recordAt image) p)) (recordAt image p) ≡ true
   good-at p l =
       ap (λ (x : ℕ). goodAbove N x (recordAt image p)) (above-to (recordAt image) p)
@@ -201,7 +193,7 @@ module _ (image : List ℕ) (A : Accepted (formOf image) image) where
   take-all j (suc c) h l =
       let p : ℕ = 7 * j + c in
       let e : p + 1 ≡ 7 * j + suc c = omega arith in
-      let r : recordAt image p ≡ recordIn (at j) c = record-in j c (omega arith) in
+      let r : recordAt image p ≡ recordIn (at j) c = record-in image j c (omega arith) in
       let g : goodAbove N (above (recordsTo (recordAt image) p)) (recordIn (at j) c) ≡ true = ap (goodAbove N (above (recordsTo (recordAt image) p))) (sym r) ∙ good-at p (omega arith) in
       ap (takeRecords N (suc j) (at j) (allKept (recordAt image) (7 * j))) (sym (add-one c)) ∙ records-more N (suc j) (at j) (allKept (recordAt image) (7 * j)) c
       ∙ ap (λ (t : Taken). takeRecord N (suc j) (at j) t c) (take-all j c (omega arith) (omega arith))

@@ -7,22 +7,22 @@ use native.Mathlib.Numerals.{add-one}
 use native.Mathlib.Omega.{arith}
 use lib.ListN.{length, take, drop, getD, set, length-append, List·getD-append}
 use lib.Seq.{getD-at}
-use lib.Dec.{eqb, ltb, leb}
-use borrow.Author.Tests.{eq-eqb, ne-eqb, lt-ltb, le-ltb, ltb-true, leb-true}
-use Rattle.laws.specs.Choice.{both, no}
-use Rattle.laws.specs.Bytes.{part, putW, bytes, numberAt}
+use lib.Dec.{eqb}
+use borrow.Author.Tests.{eq-eqb, ne-eqb, lt-ltb, le-ltb}
+use Rattle.laws.specs.Choice.{both}
+use Rattle.laws.specs.Bytes.{putW, numberAt}
 use Rattle.laws.specs.Refusal.{refusal}
-use Rattle.laws.proofs.Choice.{both-true, both-left, both-right, both-false-left, both-false-right}
+use Rattle.laws.proofs.Choice.{both-true, both-right, both-false-left, both-false-right}
 use Rattle.laws.proofs.Refusal.{refusal-0, refusal-first}
 use Rattle.laws.proofs.Put.{part-is, putW-fits}
 use Rattle.laws.proofs.Value.{splice-sets}
-use Rattle.block.specs.Block.{allZero, blockOr0}
+use Rattle.block.specs.Block.{blockOr0}
 use Rattle.block.proofs.Blocks.{blockOr0-fits}
 use Rattle.sums.specs.Check.{checkRight, modulusFor}
 use Rattle.image.specs.Encode.{Record, none, recordBytes}
-use Rattle.image.specs.Test.{wholeBlocks, imageBlock, countOf, recordIn, headSound, blockSound, leavesIn, goodAbove, formOf, versionIn, lengthRight, lowest, recordGood}
+use Rattle.image.specs.Test.{wholeBlocks, imageBlock, countOf, recordIn, headSound, blockSound, leavesIn, goodAbove, formOf, versionIn, lengthRight, lowest}
 use Rattle.image.proofs.Sound.{form-modulus, count-bounds, sound-count}
-use Rattle.image.proofs.Rules.{good-by, record-by, lowest-none, lowest-more}
+use Rattle.image.proofs.Rules.{lowest-none, lowest-more}
 use Rattle.salvage.specs.Salvage.{Taken, used, above, takeRecord, takeRecords, takeBlock, takeBlocks, headTests}
 use Rattle.salvage.specs.Walk.{recordPlace, closedAt, withRecord, withRecords, lastClosed, withEntries, At}
 
@@ -189,37 +189,27 @@ module _ (o l : List ℕ) (t : Taken) (kept low listed : ℕ) (output list : Lis
         list-is = (λ i. putW 1 (a .list-is i) (a .listed-is i) (x ∷ [])) ∙ entries-last l (t .listed) x;
       }
 
--- record i of a block, good above the leaves below `low` or not, as the code finds it
-module _ (n low : ℕ) (b : List ℕ) (i : ℕ) (long : length b ≡ 512) (few : i < 7) where
-  abbrev leaf : ℕ
-  leaf = numberAt 4 b (8 + 68 * i)
+-- record i of a block, good above the leaves below `low` or not, as its leaf number and its bytes are read
+module _ (n low : ℕ) (b : List ℕ) (i : ℕ) (long : length b ≡ 512) (few : i < 7) (k : ℕ) (content : List ℕ) (e : k ≡ numberAt 4 b (8 + 68 * i)) (f : content ≡ blockOr0 b (12 + 68 * i)) where
+  abbrev read : Record
+  read = record { leaf = k; content = content }
 
-  good-fields : recordGood n low b i ≡ true → both (leb low leaf) (both (ltb leaf n) (no (allZero (part b (12 + 68 * i) 64)))) ≡ true
-  good-fields h = sym (record-by n low b i long few ∙ good-by n low (recordIn b i)) ∙ h
-
-  pub good-above : recordGood n low b i ≡ true → low ≤ leaf
-  good-above h = leb-true low leaf (both-left _ _ (good-fields h))
-
-  pub good-below : recordGood n low b i ≡ true → leaf < n
-  good-below h = ltb-true leaf n (both-left _ _ (both-right _ _ (good-fields h)))
+  read-is : read ≡ recordIn b i
+  read-is = λ x. record { leaf = e x; content = (f ∙ blockOr0-fits b (12 + 68 * i) (omega arith)) x }
 
   module _ (j kept listed : ℕ) (output list : List ℕ) where
-    pub took : recordGood n low b i ≡ true → (k : ℕ) (content after : List ℕ) → k ≡ leaf → content ≡ blockOr0 b (12 + 68 * i)
-        → after ≡ withRecord output kept (bytes 4 k ++ content)
-        → (o l : List ℕ) (t : Taken) → At o l t kept low listed output list → At o l (takeRecord n j b t i) (kept + 1) (k + 1) listed after list
-    took h k content after e f g o l t a =
-        let q : goodAbove n (above (t .kept)) (recordIn b i) ≡ true =
-        ap (λ (x : ℕ). goodAbove n x (recordIn b i)) (sym (a .low-is)) ∙ sym (record-by n low b i long few) ∙ h in
-        let s : after ≡ withRecord output kept (recordBytes (recordIn b i)) =
-        g ∙ (λ x. withRecord output kept (bytes 4 (e x) ++ (f ∙ blockOr0-fits b (12 + 68 * i) (omega arith)) x)) in
-        rw (record-kept n j b t i q, s, e) (at-record o l t kept low listed output list a (recordIn b i))
+    good-taken : (t : Taken) → low ≡ above (t .kept) → goodAbove n (above (t .kept)) (recordIn b i) ≡ goodAbove n low read
+    good-taken t h = λ x. goodAbove n (sym h x) (sym read-is x)
 
-    pub passed : recordGood n low b i ≡ false → (after : List ℕ) → after ≡ putW 1 list listed ((8 * j + i) ∷ [])
+    pub took : goodAbove n low read ≡ true → (after : List ℕ) → after ≡ withRecord output kept (recordBytes read)
+        → (o l : List ℕ) (t : Taken) → At o l t kept low listed output list → At o l (takeRecord n j b t i) (kept + 1) (k + 1) listed after list
+    took h after g o l t a =
+        rw (record-kept n j b t i (good-taken t (a .low-is) ∙ h), ← read-is, g) (at-record o l t kept low listed output list a read)
+
+    pub passed : goodAbove n low read ≡ false → (after : List ℕ) → after ≡ putW 1 list listed ((8 * j + i) ∷ [])
         → (o l : List ℕ) (t : Taken) → At o l t kept low listed output list → At o l (takeRecord n j b t i) kept low (listed + 1) output after
     passed h after g o l t a =
-        let q : goodAbove n (above (t .kept)) (recordIn b i) ≡ false =
-        ap (λ (x : ℕ). goodAbove n x (recordIn b i)) (sym (a .low-is)) ∙ sym (record-by n low b i long few) ∙ h in
-        rw (record-left n j b t i q, g) (at-entry o l t kept low listed output list a (8 * j + i))
+        rw (record-left n j b t i (good-taken t (a .low-is) ∙ h), g) (at-entry o l t kept low listed output list a (8 * j + i))
 
 -- block j is used, as the code finds it of the block that is lent
 pub used-is : (image : List ℕ) (j : ℕ) {v : ℕ} {r : Bool} → v ≡ versionIn image

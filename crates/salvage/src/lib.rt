@@ -100,10 +100,10 @@ fn take_record(
     let kept = walk.kept;
     let low = walk.low;
     let listed = walk.listed;
-    let good = image::record_good(n, low, block, i);
+    let leaf = block::four_at(block, image::RECORDS + image::RECORD * i);
+    let content = block::read_block(block, image::CONTENT + image::RECORD * i);
+    let good = image::record_good(n, low, leaf, &content);
     if good {
-        let leaf = sums::four_at(block, image::RECORDS + image::RECORD * i);
-        let content = block::read_block(block, image::CONTENT + image::RECORD * i);
         put_kept(output, kept, leaf, &content);
         return Progress {
             kept: kept + 1,

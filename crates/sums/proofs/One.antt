@@ -12,12 +12,6 @@ two-at-one row at p q = p ∙ sym q
 pub put-two-one : (row : List ℕ) (at v : ℕ) {r s : List ℕ} → r ≡ putW 2 row at (bytes 2 v) → s ≡ putW 2 row at (bytes 2 v) → r ≡ s
 put-two-one row at v p q = p ∙ sym q
 
-pub four-at-one : (row : List ℕ) (at : ℕ) {r s : ℕ} → r ≡ numberAt 4 row at → s ≡ numberAt 4 row at → r ≡ s
-four-at-one row at p q = p ∙ sym q
-
-pub put-four-one : (row : List ℕ) (at v : ℕ) {r s : List ℕ} → r ≡ putW 4 row at (bytes 4 v) → s ≡ putW 4 row at (bytes 4 v) → r ≡ s
-put-four-one row at v p q = p ∙ sym q
-
 pub check-right-one : (version : ℕ) (block : List ℕ) {r s : Bool} → r ≡ checkRight (modulusFor version) block → s ≡ checkRight (modulusFor version) block → r ≡ s
 check-right-one version block p q = p ∙ sym q
 

@@ -1,4 +1,4 @@
-// The check of a block, by the old rule and by the new: 01 "Archive image", its second paragraph, and 02 E2; and the numbers of an image, of two and of four bytes.
+// The check of a block, by the old rule and by the new: 01 "Archive image", its second paragraph, and 02 E2; and the numbers of two bytes, its words.
 // No public function has a `requires`: where the bytes are not all there, a read gives 0 and a write changes nothing.
 ghost use mathlib.Core.Path.{_≡_};
 ghost use Prim.Native.Nat.{_+_, _*_, _<_, _≤_};
@@ -52,42 +52,6 @@ pub fn put_two(row: &mut [u8], at: usize, v: u16)
     }
     row[at] = (v % 256) as u8;
     row[at + 1] = (v / 256 % 256) as u8;
-}
-
-// Four bytes as a number, low byte first.
-fn join4(a: u8, b: u8, c: u8, d: u8) -> u32
-    ensures { λ r. ⌜ r ≡ a + 256 * b + 65536 * c + 16777216 * d ⌝ }
-{
-    a as u32 + 256 * (b as u32) + 65536 * (c as u32) + 16777216 * (d as u32)
-}
-
-// The four-byte number from `at`; 0 where its bytes are not all there.
-pub fn four_at(row: &[u8], at: usize) -> u32
-    ensures { λ r. ⌜ r ≡ numberAt 4 (now (row .entry)) at ⌝ }
-{
-    if row.len() < 4 {
-        return 0;
-    }
-    if row.len() - 4 < at {
-        return 0;
-    }
-    join4(row[at], row[at + 1], row[at + 2], row[at + 3])
-}
-
-// The number v into four bytes from `at`; where they do not fit, nothing changes.
-pub fn put_four(row: &mut [u8], at: usize, v: u32)
-    ensures { λ _. ⌜ now (row .exit) ≡ putW 4 (now (row .entry)) at (bytes 4 v) ⌝ }
-{
-    if row.len() < 4 {
-        return;
-    }
-    if row.len() - 4 < at {
-        return;
-    }
-    row[at] = (v % 256) as u8;
-    row[at + 1] = (v / 256 % 256) as u8;
-    row[at + 2] = (v / 256 / 256 % 256) as u8;
-    row[at + 3] = (v / 256 / 256 / 256 % 256) as u8;
 }
 
 // Word k of a block that has it.

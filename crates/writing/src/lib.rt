@@ -72,7 +72,7 @@ pub fn put_record(row: &mut [u8], at: usize, leaf: u32, content: &[u8; Geometry:
     if row.len() - image::RECORD < at {
         return;
     }
-    sums::put_four(row, at, leaf);
+    block::put_four(row, at, leaf);
     block::write_block(row, at + 4, content);
 }
 
@@ -98,7 +98,7 @@ fn put_front(row: &mut [u8], j: u32, count: u16)
     requires { ⌜ length (now row) ≡ 512 ⌝ }
     ensures { λ _. ⌜ now (row .exit) ≡ splice (now (row .entry)) 0 (blockFront j count) ⌝ }
 {
-    sums::put_four(row, 0, j);
+    block::put_four(row, 0, j);
     sums::put_two(row, 4, 2);
     sums::put_two(row, 6, count);
 }
@@ -136,11 +136,11 @@ pub fn put_head(row: &mut [u8], n: u32, m: u32)
     if row.len() != image::BLOCK {
         return;
     }
-    sums::put_four(row, 0, 0);
+    block::put_four(row, 0, 0);
     sums::put_two(row, 4, 1);
     sums::put_two(row, 6, 2);
-    sums::put_four(row, 8, n);
-    sums::put_four(row, 12, m);
+    block::put_four(row, 8, n);
+    block::put_four(row, 12, m);
     image::clear(row, 16, 492);
     sums::seal(row);
 }

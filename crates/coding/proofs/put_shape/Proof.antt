@@ -1,7 +1,7 @@
 -- `put_shape` meets its contract: four stores from the front.
 use borrow.Author.Needs.{needs}
 use lib.ListN.{length-set}
-use Rattle.coding.proofs.Stores.{stores-4}
+use Rattle.laws.proofs.Stores.{stores-4}
 use native.Mathlib.Omega.{arith}
 use Rattle.coding.proofs.put_shape.Statement.{statement}
 use Rattle.coding.proofs.put_shape.Tie as tie

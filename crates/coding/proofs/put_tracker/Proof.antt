@@ -2,7 +2,7 @@
 use borrow.Author.Needs.{needs}
 use lib.ListN.{length-set}
 use Rattle.coding.specs.Words.{trackerCoded}
-use Rattle.coding.proofs.Stores.{stores-6}
+use Rattle.laws.proofs.Stores.{stores-6}
 use native.Mathlib.Omega.{arith}
 use Rattle.coding.proofs.put_tracker.Statement.{statement}
 use Rattle.coding.proofs.put_tracker.Tie as tie

@@ -3,7 +3,8 @@ use borrow.Author.Needs.{needs}
 use mathlib.Core.Path.{_∙_}
 use lib.ListN.{length-set}
 use mathlib.Core.List.{[], _∷_}
-use Rattle.coding.proofs.Stores.{stores, splice-all}
+use Rattle.laws.proofs.Value.{splice-sets}
+use Rattle.laws.proofs.Stores.{splice-all}
 use native.Mathlib.Omega.{arith}
 use Rattle.coding.proofs.put_words.Statement.{statement}
 use Rattle.coding.proofs.put_words.Tie as tie
@@ -30,7 +31,7 @@ same-length : tie.Need-same-length
 same-length c = search needs
 
 returns : tie.Need-returns
-returns c = stores (c .args .words .now) 0 (c .args .said ∷ c .args .v ∷ c .args .k ∷ 0 ∷ 0 ∷ 0 ∷ []) (omega arith) ∙ splice-all (c .args .words .now) (c .args .said ∷ c .args .v ∷ c .args .k ∷ 0 ∷ 0 ∷ 0 ∷ []) (omega arith)
+returns c = splice-sets (c .args .said ∷ c .args .v ∷ c .args .k ∷ 0 ∷ 0 ∷ 0 ∷ []) (c .args .words .now) 0 (omega arith) ∙ splice-all (c .args .words .now) (c .args .said ∷ c .args .v ∷ c .args .k ∷ 0 ∷ 0 ∷ 0 ∷ []) (omega arith)
 
 pub put-words-spec : {M : Type 1} → statement M
 put-words-spec =

@@ -1,14 +1,15 @@
 -- `image::records_good` meets its contract: the records before record i are good, and `next` is the leaf number after the last of them.
 use mathlib.Core.Path.{_≡_, refl, ap, sym, _∙_}
 use mathlib.Core.Bool.{true, false}
-use Prim.Native.Nat.{_-_, _≤_}
+use Prim.Native.Nat.{_+_, _*_, _-_, _≤_}
 use native.Mathlib.Omega.{arith}
 use borrow.Author.Tests.{not-true, not-false}
 use Rattle.laws.specs.Scan.{all}
 use Rattle.laws.proofs.Choice.{not-both-ways}
 use Rattle.laws.proofs.Scan.{all-zero, all-more, all-fails}
+use Rattle.laws.proofs.Put.{part-is}
 use Rattle.image.specs.Test.{recordIn, lowest, goodRecord}
-use Rattle.image.proofs.Rules.{record-by, lowest-none, lowest-more, good-is}
+use Rattle.image.proofs.Rules.{lowest-none, lowest-more, good-is}
 use borrow.Author.Needs.{needs}
 use Rattle.image.proofs.records_good.Statement.{statement}
 use Rattle.image.proofs.records_good.Tie as tie
@@ -22,17 +23,6 @@ abbrev μ-loop : tie.MeasureT-loop
 loop-holds : tie.Need-loop-holds Inv-loop μ-loop
 loop-holds c = (omega arith, sym (lowest-none _ _), all-zero _)
 
-record-good-requires : tie.Need-record-good-requires Inv-loop μ-loop
-record-good-requires c κs = search needs
-
-returns : tie.Need-returns Inv-loop μ-loop
-returns c = let a = c .before .before .before .before .before .args in
-    let l = c .before .before .before .loop in (
-      sym (all-fails (goodRecord (a .n) (a .low) (recordIn (a .block .now))) (a .count) (l .i) (omega arith)
-          (good-is (a .n) (a .low) (recordIn (a .block .now)) (l .i) (l .next) (l .inv .1) ∙ sym (record-by (a .n) (l .next) (a .block .now) (l .i) (omega arith) (omega arith)) ∙ sym (c .before .record-good .ensures) ∙ not-true _ (c .if1 .taken))),
-      λ e. absurd (not-both-ways {b = false} e refl),
-    )
-
 mul-four-at : tie.Need-mul-four-at Inv-loop μ-loop
 mul-four-at c = search needs
 
@@ -41,6 +31,36 @@ add-four-at c = search needs
 
 four-at-requires : tie.Need-four-at-requires Inv-loop μ-loop
 four-at-requires c κs = search needs
+
+mul-at : tie.Need-mul-at Inv-loop μ-loop
+mul-at c = search needs
+
+add-at : tie.Need-add-at Inv-loop μ-loop
+add-at c = search needs
+
+add-record-good : tie.Need-add-record-good Inv-loop μ-loop
+add-record-good c = search needs
+
+sub-record-good : tie.Need-sub-record-good Inv-loop μ-loop
+sub-record-good c = search needs
+
+part-record-good-start : tie.Need-part-record-good-start Inv-loop μ-loop
+part-record-good-start c = search needs
+
+part-record-good-end : tie.Need-part-record-good-end Inv-loop μ-loop
+part-record-good-end c = search needs
+
+record-good-requires : tie.Need-record-good-requires Inv-loop μ-loop
+record-good-requires c κs = search needs
+
+returns : tie.Need-returns Inv-loop μ-loop
+returns c = let a = c .before .before .before .before .before .before .before .args in
+    let l = c .before .before .before .before .before .loop in
+    let good : goodRecord (a .n) (a .low) (recordIn (a .block .now)) (l .i) ≡ c .before .record-good .result =
+    cc (good-is (a .n) (a .low) (recordIn (a .block .now)) (l .i) (l .next) (l .inv .1), part-is (a .block .now) (12 + 68 * l .i) 64) in (
+      sym (all-fails (goodRecord (a .n) (a .low) (recordIn (a .block .now))) (a .count) (l .i) (omega arith) (good ∙ not-true _ (c .if1 .taken))),
+      λ e. absurd (not-both-ways {b = false} e refl),
+    )
 
 cast-next : tie.Need-cast-next Inv-loop μ-loop
 cast-next c = search needs
@@ -55,12 +75,13 @@ loop-less : tie.Need-loop-less Inv-loop μ-loop
 loop-less c = search needs
 
 loop-again : tie.Need-loop-again Inv-loop μ-loop
-loop-again c = let a = c .before .before .before .before .before .before .args in
-    let l = c .before .before .before .before .loop in (
+loop-again c = let a = c .before .before .before .before .before .before .before .args in
+    let l = c .before .before .before .before .before .loop in
+    let good : goodRecord (a .n) (a .low) (recordIn (a .block .now)) (l .i) ≡ c .before .record-good .result =
+    cc (good-is (a .n) (a .low) (recordIn (a .block .now)) (l .i) (l .next) (l .inv .1), part-is (a .block .now) (12 + 68 * l .i) 64) in (
       omega arith,
       cc (lowest-more (a .low) (recordIn (a .block .now)) (l .i)),
-      all-more (goodRecord (a .n) (a .low) (recordIn (a .block .now))) (l .i) (l .inv .2)
-          (good-is (a .n) (a .low) (recordIn (a .block .now)) (l .i) (l .next) (l .inv .1) ∙ sym (record-by (a .n) (l .next) (a .block .now) (l .i) (omega arith) (omega arith)) ∙ sym (c .before .before .record-good .ensures) ∙ not-false _ (c .before .if1 .left)),
+      all-more (goodRecord (a .n) (a .low) (recordIn (a .block .now))) (l .i) (l .inv .2) (good ∙ not-false _ (c .if1 .left)),
     )
 
 returns-2 : tie.Need-returns-2 Inv-loop μ-loop
@@ -76,11 +97,17 @@ records-good-spec =
     Inv-loop
     μ-loop
     loop-holds
-    record-good-requires
-    returns
     mul-four-at
     add-four-at
     four-at-requires
+    mul-at
+    add-at
+    add-record-good
+    sub-record-good
+    part-record-good-start
+    part-record-good-end
+    record-good-requires
+    returns
     cast-next
     add-next
     add-i

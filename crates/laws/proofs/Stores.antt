@@ -1,22 +1,18 @@
 -- Stores one after the other are one write; words read one by one are a part.
 use mathlib.Core.Path.{_≡_, ap, _∙_}
-use mathlib.Core.List.{List, [], _∷_, append-assoc}
+use mathlib.Core.List.{List, [], _∷_}
 use Prim.Native.Nat.{ℕ, zero, suc, _+_, _≤_, _<_}
 use native.Mathlib.Omega.{arith}
-use lib.ListN.{length, take, drop, getD, set}
-use lib.Seq.{sets, sets-eq, drop-cons}
+use lib.ListN.{length, getD, set}
+use lib.Seq.{drop-cons}
 use Rattle.laws.specs.Bytes.{part, splice}
+use Rattle.laws.proofs.Value.{splice-sets}
 use Rattle.laws.proofs.Parts.{part-none}
 use Rattle.laws.proofs.Writes.{splice-end}
-
--- the values vs, stored from `at` on
-pub stores : (w : List ℕ) (at : ℕ) (vs : List ℕ) → at + length vs ≤ length w → sets w at vs ≡ splice w at vs
-unfolding splice
-stores w at vs h = sets-eq vs w at h ∙ append-assoc (take at w) vs (drop (at + length vs) w)
 
 -- four from the front
 pub stores-4 : (w : List ℕ) (a b c d : ℕ) → 4 ≤ length w → set (set (set (set w 0 a) 1 b) 2 c) 3 d ≡ splice w 0 (a ∷ b ∷ c ∷ d ∷ [])
-stores-4 w a b c d h = stores w 0 (a ∷ b ∷ c ∷ d ∷ []) h
+stores-4 w a b c d h = splice-sets (a ∷ b ∷ c ∷ d ∷ []) w 0 h
 
 -- six from `at` on
 pub stores-6 : (w : List ℕ) (at a b c d e f : ℕ) → at + 6 ≤ length w
@@ -27,7 +23,7 @@ stores-6 w at a b c d e f h =
     let p3 : at + 3 ≡ suc (suc (suc at)) = omega arith in
     let p4 : at + 4 ≡ suc (suc (suc (suc at))) = omega arith in
     let p5 : at + 5 ≡ suc (suc (suc (suc (suc at)))) = omega arith in
-    rw (p1, p2, p3, p4, p5) (stores w at (a ∷ b ∷ c ∷ d ∷ e ∷ f ∷ []) h)
+    rw (p1, p2, p3, p4, p5) (splice-sets (a ∷ b ∷ c ∷ d ∷ e ∷ f ∷ []) w at h)
 
 -- a write of all there is
 pub splice-all : (w v : List ℕ) → length v ≡ length w → splice w 0 v ≡ v
