@@ -1,10 +1,10 @@
 -- Every place lies inside the memory: groups below 16n in its leaves, the bits of all leaves in its map blocks.
 use mathlib.Core.Path.{_≡_, refl}
-use Prim.Native.Nat.{ℕ, _+_, _*_, _/_, _%_, _≤_, _<_}
+use Prim.Native.Nat.{ℕ, suc, _+_, _*_, _/_, _%_, _≤_, _<_}
 use native.Mathlib.Omega.{arith}
 use mathlib.Core.Logic.{_⊎_, inl, inr, ⊎-elim}
 use Rattle.laws.proofs.Splice.{lt-or-ge}
-use Rattle.geometry.specs.TagMemory.{leafOf, byteOf, groups, groupOn, mapBlockOf, mapByteOf, mapBitOf, mapBlocks, blocks, memoryLength, blockPlace, groupPlace, mapPlace}
+use Rattle.geometry.specs.TagMemory.{leafOf, byteOf, groups, groupOn, mapBlockOf, mapByteOf, mapBitOf, mapBlocks, blockBits, count, base, blocks, lengthOf, memoryLength, blockPlace, groupPlace, bitPlace, mapPlace}
 
 -- a group below 16n has its leaf among the n
 pub leafOf-lt : (n g : ℕ) → g < groups n → leafOf g < n
@@ -75,10 +75,27 @@ pub byteOf-lt : (g : ℕ) → byteOf g + 4 ≤ 64
 unfolding byteOf
 byteOf-lt g = omega arith
 
--- there are no more map blocks than leaves
+-- there are no more map blocks than leaves, with a bit for each leaf and fewer than 512 past them
 pub mapBlocks-most : (n : ℕ) → mapBlocks n ≤ n
 unfolding mapBlocks
 mapBlocks-most n = omega arith
+
+pub mapBlocks-enough : (n : ℕ) → n ≤ blockBits * mapBlocks n
+unfolding mapBlocks
+mapBlocks-enough n = omega arith
+
+pub mapBlocks-few : (n : ℕ) → blockBits * mapBlocks n < n + blockBits
+unfolding mapBlocks
+mapBlocks-few n = omega arith
+
+-- numbers fall from group to leaf to map block
+pub leafOf-few : (g : ℕ) → 16 * leafOf g ≤ g
+unfolding leafOf
+leafOf-few g = omega arith
+
+pub mapBlockOf-few : (k : ℕ) → blockBits * mapBlockOf k ≤ k
+unfolding mapBlockOf
+mapBlockOf-few k = omega arith
 
 -- a leaf below n has its bit in one of the map blocks
 pub mapBlockOf-lt : (n k : ℕ) → k < n → mapBlockOf k < mapBlocks n
@@ -86,14 +103,12 @@ unfolding mapBlockOf mapBlocks
 mapBlockOf-lt n k h = omega arith
 
 -- and so has every bit of the map blocks
-pub mapBlockOf-bit : (n k : ℕ) → k < 512 * mapBlocks n → mapBlockOf k < mapBlocks n
+pub mapBlockOf-bit : (n k : ℕ) → k < blockBits * mapBlocks n → mapBlockOf k < mapBlocks n
 unfolding mapBlockOf mapBlocks
 mapBlockOf-bit n k h = omega arith
 
--- the map blocks have a bit for each leaf
-pub leaf-has-bit : (n k : ℕ) → k < n → k < 512 * mapBlocks n
-unfolding mapBlocks
-leaf-has-bit n k h = omega arith
+pub leaf-has-bit : (n k : ℕ) → k < n → k < blockBits * mapBlocks n
+leaf-has-bit n k h = omega (arith, mapBlocks-enough n)
 
 pub mapByteOf-lt : (k : ℕ) → mapByteOf k < 64
 unfolding mapByteOf
@@ -103,24 +118,32 @@ pub mapBitOf-lt : (k : ℕ) → mapBitOf k < 8
 unfolding mapBitOf
 mapBitOf-lt k = omega arith
 
--- the map's bytes follow each other, a bit for each leaf
-pub mapPlace-is : (n k : ℕ) → mapPlace n k ≡ 64 * n + k / 8
+-- the bytes over level e follow each other, a bit for each of its blocks
+pub bitPlace-is : (e n k : ℕ) → bitPlace e n k ≡ blockPlace (base (suc e) n) + k / 8
 unfolding mapBlockOf mapByteOf
-mapPlace-is n k = omega arith
+bitPlace-is e n k = omega arith
 
--- the leaves of the map's byte j
+pub mapPlace-is : (n k : ℕ) → mapPlace n k ≡ 64 * n + k / 8
+mapPlace-is n k = bitPlace-is 0 n k
+
+-- the blocks of byte j over level e; the leaves of the map's byte j
+pub bitPlace-byte : (e n j i : ℕ) → i < 8 → bitPlace e n (8 * j + i) ≡ blockPlace (base (suc e) n) + j
+bitPlace-byte e n j i h = omega (arith, bitPlace-is e n (8 * j + i))
+
 pub mapPlace-byte : (n j i : ℕ) → i < 8 → mapPlace n (8 * j + i) ≡ blockPlace n + j
-unfolding mapBlockOf mapByteOf
-mapPlace-byte n j i h = omega arith
+mapPlace-byte n j i h = bitPlace-byte 0 n j i h
 
 pub mapBitOf-byte : (j i : ℕ) → i < 8 → mapBitOf (8 * j + i) ≡ i
 unfolding mapBitOf
 mapBitOf-byte j i h = omega arith
 
--- a place tells its leaf: byte and bit together
+-- a place tells its block: byte and bit together
+pub bitPlace-same : (e n k l : ℕ) → bitPlace e n k ≡ bitPlace e n l → mapBitOf k ≡ mapBitOf l → k ≡ l
+unfolding mapBitOf
+bitPlace-same e n k l p b = omega (arith, bitPlace-is e n k, bitPlace-is e n l)
+
 pub mapPlace-same : (n k l : ℕ) → mapPlace n k ≡ mapPlace n l → mapBitOf k ≡ mapBitOf l → k ≡ l
-unfolding mapBlockOf mapByteOf mapBitOf
-mapPlace-same n k l p b = omega arith
+mapPlace-same n k l p b = bitPlace-same 0 n k l p b
 
 -- a block's 64 bytes lie in memory
 pub block-inside : (n b : ℕ) → b < blocks n → blockPlace b + 64 ≤ memoryLength n
@@ -130,21 +153,36 @@ block-inside n b h = omega arith
 pub group-inside : (n g : ℕ) → g < groups n → groupPlace g + 4 ≤ blockPlace n
 group-inside n g h = let k = leafOf-lt n g h in let b = byteOf-lt g in omega arith
 
--- the byte of a bit lies in memory, in the map
-pub bit-inside : (n k : ℕ) → k < 512 * mapBlocks n → mapPlace n k < memoryLength n
-unfolding mapBlockOf mapByteOf mapBlocks
-bit-inside n k h = omega arith
+-- the byte of a bit over level e lies in memory, after the blocks of the levels to e and before those above its own
+pub bitPlace-after : (e n k : ℕ) → blockPlace (base (suc e) n) ≤ bitPlace e n k
+bitPlace-after e n k = omega arith
+
+pub bitPlace-before : (e n k : ℕ) → k < blockBits * count (suc e) n → bitPlace e n k < lengthOf (suc (suc e)) n
+bitPlace-before e n k h = omega (arith, bitPlace-is e n k)
+
+pub bitPlace-past : (e n k : ℕ) → blockBits * count (suc e) n ≤ k → lengthOf (suc (suc e)) n ≤ bitPlace e n k
+bitPlace-past e n k h = omega (arith, bitPlace-is e n k)
+
+-- in the map
+pub bit-inside : (n k : ℕ) → k < blockBits * mapBlocks n → mapPlace n k < memoryLength n
+bit-inside n k h = bitPlace-before 0 n k h
 
 pub bit-after-leaves : (n k : ℕ) → blockPlace n ≤ mapPlace n k
-unfolding mapBlockOf mapByteOf
-bit-after-leaves n k = omega arith
+bit-after-leaves n k = bitPlace-after 0 n k
 
 -- bits past the map's have no byte in memory
-pub bit-outside : (n k : ℕ) → 512 * mapBlocks n ≤ k → memoryLength n ≤ mapPlace n k
-unfolding mapBlockOf mapByteOf mapBlocks
-bit-outside n k h = omega arith
+pub bit-outside : (n k : ℕ) → blockBits * mapBlocks n ≤ k → memoryLength n ≤ mapPlace n k
+bit-outside n k h = bitPlace-past 0 n k h
 
--- block, byte and bit tell the leaf
-pub map-one : (j k : ℕ) → mapBlockOf j ≡ mapBlockOf k → mapByteOf j ≡ mapByteOf k → mapBitOf j ≡ mapBitOf k → j ≡ k
+-- block, byte and bit tell the block that the bit is for: 64 bytes of 8 bits are 512
+pub child-is : (k : ℕ) → blockBits * mapBlockOf k + (8 * mapByteOf k + mapBitOf k) ≡ k
 unfolding mapBlockOf mapByteOf mapBitOf
-map-one j k a b c = omega arith
+child-is k = omega arith
+
+pub map-one : (j k : ℕ) → mapBlockOf j ≡ mapBlockOf k → mapByteOf j ≡ mapByteOf k → mapBitOf j ≡ mapBitOf k → j ≡ k
+map-one j k a b c = omega (arith, child-is j, child-is k)
+
+-- the blocks that block j has the bits of
+pub mapBlockOf-child : (j i : ℕ) → i < blockBits → mapBlockOf (blockBits * j + i) ≡ j
+unfolding mapBlockOf
+mapBlockOf-child j i h = omega arith

@@ -1,8 +1,8 @@
--- The limits and the address rules of 01 "The tag memory", in its order.
+-- The limits and the address rules of 01 "The tag memory", in its order, over the number of levels (02, E5): 01's memory has two.
 use mathlib.Core.Bool.{Bool}
-use Prim.Native.Nat.{ℕ, zero, suc, _+_, _*_, _/_, _%_}
-use lib.Dec.{leb}
-use Rattle.laws.specs.Choice.{both}
+use Prim.Native.Nat.{ℕ, zero, suc, _+_, _-_, _*_, _/_, _%_}
+use lib.Dec.{leb, eqb}
+use Rattle.laws.specs.Choice.{pick, both}
 
 -- "A group is the 8 tags of one 64-byte data block: an unsigned 32-bit number, tag j in bits 4j to 4j+3"
 abbrev pub values : ℕ
@@ -26,9 +26,12 @@ groups n = 16 * n
 abbrev pub groupOn : ℕ → ℕ → ℕ
 groupOn k j = groups k + j
 
--- "There are n leaves, 1 to 262,144."
+-- "There are n leaves, 1 to 262,144."; with a third level "n up to 1,048,576". No other number of levels has any.
+abbrev pub mostLeavesOf : ℕ → ℕ
+mostLeavesOf levels = pick (eqb levels 2) 262144 (pick (eqb levels 3) 1048576 0)
+
 abbrev pub mostLeaves : ℕ
-mostLeaves = 262144
+mostLeaves = mostLeavesOf 2
 
 unfoldable pub inLimits : ℕ → Bool
 inLimits n = both (leb 1 n) (leb n mostLeaves)
@@ -41,35 +44,61 @@ abbrev pub mostLines : ℕ
 mostLines = 64
 
 -- "Leaf k has its bit in map block k / 512, byte (k mod 512) / 8, bit k mod 8, bit 0 lowest."
+-- Level 0 has the leaves; block k of any level has its bit in the level above by "the same block size and bit rule".
+abbrev pub blockBits : ℕ
+blockBits = 512
+
 unfoldable pub mapBlockOf : ℕ → ℕ
-mapBlockOf k = k / 512
+mapBlockOf k = k / blockBits
 
 unfoldable pub mapByteOf : ℕ → ℕ
-mapByteOf k = k % 512 / 8
+mapByteOf k = k % blockBits / 8
 
 unfoldable pub mapBitOf : ℕ → ℕ
 mapBitOf k = k % 8
 
--- "Memory is the n leaves, then the map blocks: 64 x (n + n/512 rounded up) bytes."
-unfoldable pub mapBlocks : ℕ → ℕ
-mapBlocks n = (n + 511) / 512
+-- the block of level e that group g lies under
+unfoldable pub index : ℕ → ℕ → ℕ
+index zero g = leafOf g
+index (suc e) g = mapBlockOf (index e g)
 
--- the bits of n map blocks
-unfoldable pub bitsOf : ℕ → ℕ
-bitsOf n = 512 * n
+-- "Memory is the n leaves, then the map blocks: 64 x (n + n/512 rounded up) bytes.", and the top blocks "after the map blocks in memory".
+-- The blocks that have the bits of n blocks.
+unfoldable pub mapBlocks : ℕ → ℕ
+mapBlocks n = (n + (blockBits - 1)) / blockBits
+
+-- the blocks of level e over n leaves, and those of all levels below e
+abbrev pub count : ℕ → ℕ → ℕ
+count zero n = n
+count (suc e) n = mapBlocks (count e n)
+
+abbrev pub base : ℕ → ℕ → ℕ
+base zero n = 0
+base (suc zero) n = n
+base (suc (suc e)) n = base (suc e) n + count (suc e) n
+
+-- block k of level e among all blocks
+abbrev pub blockOn : ℕ → ℕ → ℕ → ℕ
+blockOn e n k = base e n + k
 
 abbrev pub blocks : ℕ → ℕ
-blocks n = n + mapBlocks n
+blocks n = base 2 n
+
+abbrev pub lengthOf : ℕ → ℕ → ℕ
+lengthOf levels n = 64 * base levels n
 
 abbrev pub memoryLength : ℕ → ℕ
-memoryLength n = 64 * blocks n
+memoryLength n = lengthOf 2 n
 
--- places in memory: of a block, of group g's first byte, and of the byte that has leaf k's bit
+-- places in memory: of a block, of group g's first byte, and of the byte that has the bit of block k of level e; of leaf k
 abbrev pub blockPlace : ℕ → ℕ
 blockPlace b = 64 * b
 
 abbrev pub groupPlace : ℕ → ℕ
 groupPlace g = blockPlace (leafOf g) + byteOf g
 
+abbrev pub bitPlace : ℕ → ℕ → ℕ → ℕ
+bitPlace e n k = blockPlace (blockOn (suc e) n (mapBlockOf k)) + mapByteOf k
+
 abbrev pub mapPlace : ℕ → ℕ → ℕ
-mapPlace n k = blockPlace (n + mapBlockOf k) + mapByteOf k
+mapPlace n k = bitPlace 0 n k

@@ -4,4 +4,5 @@ pub mod Reading
 pub mod Truth
 pub mod Words
 pub mod Clearing
+pub mod Worked
 pub mod One

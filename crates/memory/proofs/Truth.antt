@@ -1,9 +1,10 @@
--- The true test means 01's sentence, both ways.
-use mathlib.Core.Path.{_≡_, ap, sym, _∙_}
+-- The true test, over levels; of two levels it means 01's sentence, both ways.
+use mathlib.Core.Path.{_≡_, refl, ap, sym, subst, _∙_}
 use mathlib.Core.List.{List}
-use mathlib.Core.Bool.{true, false, not}
+use mathlib.Core.Bool.{Bool, true, false, not}
 use mathlib.Core.Logic.{⊎-elim}
-use Prim.Native.Nat.{ℕ, _+_, _-_, _*_, _/_, _%_, _≤_, _<_}
+use Prim.Native.Nat.{ℕ, zero, suc, _+_, _-_, _*_, _/_, _%_, _≤_, _<_}
+use native.Mathlib.Nat.{eq-or-lt-of-le, zero-add}
 use native.Mathlib.Omega.{arith}
 use lib.Bits.{bitAnd, and-le-l, and-le-r}
 use lib.Count.{trailingZeros}
@@ -16,20 +17,24 @@ use Rattle.laws.specs.Bits.{bitOf}
 use Rattle.laws.specs.Bytes.{Bytes}
 use Rattle.laws.specs.Scan.{all}
 use Rattle.laws.proofs.Bits.{bitOf-0, value-bit, lowest-one, lowest-off, others-stay}
-use Rattle.laws.proofs.Choice.{not-both-ways, true-or-false, no-not}
+use Rattle.laws.proofs.Choice.{not-both-ways, true-or-false, no-not, both-true, both-left, both-right}
 use Rattle.laws.proofs.Scan.{all-at, all-is, all-fails}
 use Rattle.laws.proofs.Splice.{lt-or-ge, getD-part}
-use Rattle.geometry.specs.TagMemory.{mapBlocks, blockPlace, mapPlace, mapBitOf}
+use Rattle.geometry.specs.TagMemory.{blockBits, mapBlocks, count, blockOn, blockPlace, mapPlace, mapBitOf}
 use Rattle.block.specs.Block.{bitAt, allZero}
 use Rattle.block.proofs.BitsOf.{bitAt-lt, bitAt-not}
 use Rattle.block.proofs.Zero.{all-some, allZero-some, allZero-not}
-use Rattle.memory.specs.PlainReading.{leafBit}
-use Rattle.memory.specs.True.{blockAt, trueAt, mapWord, trueWord, isTrue, SomeByte, TrueMemory}
+use Rattle.memory.specs.PlainReading.{leafBit, counts}
+use Rattle.memory.specs.True.{blockAt, trueOn, trueFrom, trueAt, mapWord, trueWord, isTrue, SomeByte, TrueMemory}
 use Rattle.memory.proofs.Parts.{part-short}
+use Rattle.memory.proofs.Reading.{counts-leaf}
 
 pub leafBit-lt : (n : ℕ) (m : List ℕ) (k : ℕ) → leafBit n m k < 2
 unfolding leafBit
 leafBit-lt n m k = bitAt-lt m (mapPlace n k) (mapBitOf k)
+
+not-true-so : (b : Bool) → (b ≡ true → ⊥) → b ≡ false
+not-true-so b h = ⊎-elim (λ t. absurd (h t)) (λ f. f) (true-or-false b)
 
 no-one : (b : ℕ) → b < 2 → (b ≡ 1 → ⊥) → b ≡ 0
 no-one b l h = omega arith
@@ -49,27 +54,62 @@ not-all-zero m k (i, b, z) =
     (λ (l : length (blockAt m k) ≤ i). absurd (z (sym e ∙ List·getD-eq-default (blockAt m k) 0 l)))
     (lt-or-ge i (length (blockAt m k)))
 
-module _ (n : ℕ) (m : List ℕ) where
-  pub isTrue-at : isTrue n m ≡ true → (k : ℕ) → k < 512 * mapBlocks n → trueAt n m k ≡ true
-  unfolding isTrue
-  isTrue-at h k l = all-at (trueAt n m) (512 * mapBlocks n) h k l
+-- of one bit, by whether the block counts that it is over
+module _ (d e n : ℕ) (m : List ℕ) (k : ℕ) where
+  pub trueOn-0 : counts d e n m k ≡ false → trueOn d e n m k ≡ true
+  unfolding implies
+  trueOn-0 h = rw h
 
-  pub isTrue-all : ((k : ℕ) → k < 512 * mapBlocks n → trueAt n m k ≡ true) → isTrue n m ≡ true
-  unfolding isTrue
-  isTrue-all h = all-is (trueAt n m) (512 * mapBlocks n) h
+  pub trueOn-past : counts d e n m k ≡ true → count e n ≤ k → trueOn d e n m k ≡ false
+  unfolding implies both
+  trueOn-past h l = rw (h, le-ltb k (count e n) l)
+
+  pub trueOn-1 : counts d e n m k ≡ true → k < count e n → trueOn d e n m k ≡ not (allZero (blockAt m (blockOn e n k)))
+  unfolding implies both
+  trueOn-1 h l = rw (h, lt-ltb k (count e n) l) (sym (no-not (allZero (blockAt m (blockOn e n k)))))
+
+-- a memory is true exactly if each bit of each level c from e up is, r levels below the one under the top
+module _ (n : ℕ) (m : List ℕ) where
+  abbrev Each : (d e : ℕ) → Type 0
+  Each d e = (r c : ℕ) → e ≤ c → c + suc r ≡ e + d → (k : ℕ) → k < blockBits * count (suc c) n → trueOn (suc r) c n m k ≡ true
+
+  pub trueFrom-at : (d e : ℕ) → trueFrom d e n m ≡ true → Each d e
+  trueFrom-at zero e h r c l q = absurd (omega arith)
+  trueFrom-at (suc d) e h r c l q = ⊎-elim
+      (λ (z : e ≡ c). let y : d ≡ r = omega arith in
+      subst (λ (x : ℕ). (k : ℕ) → k < blockBits * count (suc x) n → trueOn (suc r) x n m k ≡ true) z
+      (subst (λ (x : ℕ). (k : ℕ) → k < blockBits * count (suc e) n → trueOn (suc x) e n m k ≡ true) y
+      (all-at (trueOn (suc d) e n m) (blockBits * count (suc e) n) (both-right (trueFrom d (suc e) n m) _ h))))
+      (λ (z : e < c). trueFrom-at d (suc e) (both-left (trueFrom d (suc e) n m) _ h) r c z (omega arith))
+      (eq-or-lt-of-le l)
+
+  pub trueFrom-all : (d e : ℕ) → Each d e → trueFrom d e n m ≡ true
+  trueFrom-all zero e h = refl
+  trueFrom-all (suc d) e h = both-true _ _
+      (trueFrom-all d (suc e) (λ r c l q. h r c (omega arith) (omega arith)))
+      (all-is (trueOn (suc d) e n m) (blockBits * count (suc e) n) (h d e (omega arith) (omega arith)))
+
+module _ (n : ℕ) (m : List ℕ) where
+  pub isTrue-at : isTrue n m ≡ true → (k : ℕ) → k < blockBits * mapBlocks n → trueAt n m k ≡ true
+  unfolding isTrue trueAt
+  isTrue-at h k l = trueFrom-at n m 1 0 h 0 0 (omega arith) (omega arith) k l
+
+  pub isTrue-all : ((k : ℕ) → k < blockBits * mapBlocks n → trueAt n m k ≡ true) → isTrue n m ≡ true
+  unfolding isTrue trueAt both
+  isTrue-all h = all-is (trueOn 1 0 n m) (blockBits * mapBlocks n) h
 
   -- of one bit
   pub trueAt-0 : (k : ℕ) → (leafBit n m k ≡ 1 → ⊥) → trueAt n m k ≡ true
-  unfolding trueAt implies
-  trueAt-0 k h = rw (ne-eqb (leafBit n m k) 1 h)
+  unfolding trueAt
+  trueAt-0 k h = trueOn-0 1 0 n m k (counts-leaf n m k ∙ ne-eqb (leafBit n m k) 1 h)
 
   pub trueAt-past : (k : ℕ) → leafBit n m k ≡ 1 → n ≤ k → trueAt n m k ≡ false
-  unfolding trueAt implies both
-  trueAt-past k h l = rw (eq-eqb (leafBit n m k) 1 h, le-ltb k n l)
+  unfolding trueAt
+  trueAt-past k h l = trueOn-past 1 0 n m k (counts-leaf n m k ∙ eq-eqb (leafBit n m k) 1 h) l
 
   pub trueAt-1 : (k : ℕ) → leafBit n m k ≡ 1 → k < n → trueAt n m k ≡ not (allZero (blockAt m k))
-  unfolding trueAt implies both
-  trueAt-1 k h l = rw (eq-eqb (leafBit n m k) 1 h, lt-ltb k n l) (sym (no-not (allZero (blockAt m k))))
+  unfolding trueAt
+  trueAt-1 k h l = trueOn-1 1 0 n m k (counts-leaf n m k ∙ eq-eqb (leafBit n m k) 1 h) l ∙ ap (λ (b : ℕ). not (allZero (blockAt m b))) (zero-add k)
 
   -- the test comes out true: the statement holds
   pub true-means : isTrue n m ≡ true → TrueMemory n m
@@ -118,14 +158,13 @@ module _ (n : ℕ) (m : List ℕ) where
       (lt-or-ge k (32 * i)))
 
   pub words-all : (i : ℕ) → i ≡ 16 * mapBlocks n → all (trueAt n m) (32 * i) ≡ true → isTrue n m ≡ true
-  unfolding isTrue
-  words-all i e h = let f : 32 * i ≡ 512 * mapBlocks n = omega arith in rw f at h
+  words-all i e h = isTrue-all (λ k l. all-at (trueAt n m) (32 * i) h k (omega arith))
 
   pub words-fail : (i : ℕ) → i < 16 * mapBlocks n → trueWord n m i ≡ false → isTrue n m ≡ false
-  unfolding isTrue trueWord
+  unfolding trueWord
   words-fail i l h =
       let q : (x : ℕ) × (x < 32) × (trueAt n m (32 * i + x) ≡ false) = all-some (λ (y : ℕ). trueAt n m (32 * i + y)) 32 h in
-      all-fails (trueAt n m) (512 * mapBlocks n) (32 * i + q .0) (omega arith) (q .2)
+      not-true-so (isTrue n m) (λ t. not-both-ways (isTrue-at t (32 * i + q .0) (omega arith)) (q .2))
 
 -- in word i the bits of `bits` are left to look at: the others are good
 pub record Left (n : ℕ) (m : List ℕ) (i bits : ℕ) : Type 0 where

@@ -8,6 +8,7 @@ use borrow.Author.Tests.{not-true, not-false}
 use Rattle.laws.specs.Scan.{all}
 use Rattle.laws.proofs.Scan.{all-zero}
 use Rattle.geometry.specs.TagMemory.{mapBlocks}
+use Rattle.geometry.proofs.Places.{mapBlocks-few}
 use Rattle.memory.specs.True.{trueAt}
 use Rattle.memory.proofs.Truth.{no-map, words-more, words-all, words-fail}
 use Rattle.memory.proofs.is_true.Statement.{statement}
@@ -23,7 +24,7 @@ block-place-requires : tie.Need-block-place-requires Inv-loop μ-loop
 block-place-requires c κs = search needs
 
 returns : tie.Need-returns Inv-loop μ-loop
-returns c = let a = c .before .before .before .args in sym (no-map (a .n) (a .memory .now) (omega (arith, c .before .block-place .ensures)))
+returns c = let at-start = c .before .before .before in let a = at-start .args in sym (no-map (a .n) (a .memory .now) (omega (arith, c .before .block-place .ensures)))
 
 cast-end : tie.Need-cast-end Inv-loop μ-loop
 cast-end c = search needs
@@ -32,40 +33,48 @@ map-blocks-requires : tie.Need-map-blocks-requires Inv-loop μ-loop
 map-blocks-requires c κs = search needs
 
 mul-end : tie.Need-mul-end Inv-loop μ-loop
-unfolding mapBlocks
-mul-end c = omega arith
+mul-end c = let at-start = c .before .before .before .before in omega (arith, mapBlocks-few (at-start .args .n))
 
 loop-holds : tie.Need-loop-holds Inv-loop μ-loop
 loop-holds c = (omega arith, omega arith, all-zero _)
 
 cast-word-true : tie.Need-cast-word-true Inv-loop μ-loop
-unfolding mapBlocks
-cast-word-true c = omega arith
+cast-word-true c = let at-start = c .before .before .before .before .before .before in omega (arith, mapBlocks-few (at-start .args .n))
 
 word-true-requires : tie.Need-word-true-requires Inv-loop μ-loop
-unfolding mapBlocks
-word-true-requires c κs = (omega arith, omega arith)
+word-true-requires c κs = let at-start = c .before .before .before .before .before .before in (omega (arith, mapBlocks-few (at-start .args .n)), omega arith)
 
 returns-2 : tie.Need-returns-2 Inv-loop μ-loop
-returns-2 c = let a = c .before .before .before .before .before .before .before .before .args in
-    let l = c .before .before .before .loop in
+returns-2 c =
+    let at-turn = c .before .before .before in
+    let at-start = at-turn .before .before .before .before .before in
+    let a = at-start .args in
+    let l = at-turn .loop in
     sym (words-fail (a .n) (a .memory .now) (l .i) (omega arith) (sym (c .before .word-true .ensures) ∙ not-true _ (c .if2 .taken)))
 
 add-i : tie.Need-add-i Inv-loop μ-loop
-unfolding mapBlocks
-add-i c = search needs
+add-i c =
+    let at-turn = c .before .before .before in
+    let at-start = at-turn .before .before .before .before .before in
+    omega (arith, mapBlocks-few (at-start .args .n))
 
 loop-less : tie.Need-loop-less Inv-loop μ-loop
 loop-less c = search needs
 
 loop-again : tie.Need-loop-again Inv-loop μ-loop
-loop-again c = let a = c .before .before .before .before .before .before .before .before .args in
-    let l = c .before .before .before .loop in
+loop-again c =
+    let at-turn = c .before .before .before in
+    let at-start = at-turn .before .before .before .before .before in
+    let a = at-start .args in
+    let l = at-turn .loop in
     (omega arith, omega arith, words-more (a .n) (a .memory .now) (l .i) (l .inv .2) (sym (c .before .word-true .ensures) ∙ not-false _ (c .if2 .left)))
 
 returns-3 : tie.Need-returns-3 Inv-loop μ-loop
-returns-3 c = let a = c .before .before .before .before .before .before .args in
-    let l = c .before .loop in
+returns-3 c =
+    let at-exit = c .before in
+    let at-start = at-exit .before .before .before .before .before in
+    let a = at-start .args in
+    let l = at-exit .loop in
     sym (words-all (a .n) (a .memory .now) (l .i) (omega arith) (l .inv .2))
 
 pub is-true-spec : {M : Type 1} → statement M

@@ -2,7 +2,7 @@
 use borrow.Author.Needs.{needs}
 use mathlib.Core.Path.{refl, sym, _∙_}
 use native.Mathlib.Omega.{arith}
-use Rattle.geometry.specs.TagMemory.{leafOf, mapBlockOf}
+use Rattle.geometry.proofs.Places.{leafOf-few, mapBlockOf-few}
 use Rattle.whole.proofs.Tests.{not-lined, lined}
 use Rattle.whole.proofs.held_by_it.Statement.{statement}
 use Rattle.whole.proofs.held_by_it.Tie as tie
@@ -14,8 +14,10 @@ map-number-requires : tie.Need-map-number-requires
 map-number-requires c κs = search needs
 
 cast-b : tie.Need-cast-b
-unfolding leafOf mapBlockOf
-cast-b c = search needs
+cast-b c =
+    let at-start = c .before .before .before in
+    let g = at-start .args .g in
+    omega (arith, c .map-number .ensures, c .before .leaf-of .ensures, leafOf-few g, mapBlockOf-few (c .before .leaf-of .result))
 
 line-of-requires : tie.Need-line-of-requires
 line-of-requires c κs = search needs

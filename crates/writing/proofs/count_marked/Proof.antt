@@ -4,7 +4,7 @@ use Prim.Native.Nat.{_+_, _*_, _-_, _/_, _≤_}
 use native.Mathlib.Omega.{arith}
 use lib.ListN.{length}
 use Rattle.laws.specs.Bytes.{Bytes}
-use Rattle.geometry.specs.TagMemory.{mapBlocks}
+use Rattle.geometry.proofs.Places.{mapBlocks-enough}
 use Rattle.image.specs.Encode.{recordsBelow}
 use Rattle.image.proofs.Records.{below-none, length-below}
 use Rattle.writing.proofs.Search.{word-more, all-counted}
@@ -49,10 +49,12 @@ loop-again c = let a = c .before .before .before .before .args in
     (omega arith, omega arith, omega (arith, l .inv .2, word-more (a .n) (a .memory .now) (λ x. omega (arith, c .before .before .before .shared-slice-known .given x)) (l .i) (c .map-word .result) (c .map-word .ensures) (omega (arith, c .map-word .ok))))
 
 returns : tie.Need-returns Inv-loop μ-loop
-unfolding mapBlocks
-returns c = let s = c .before .before .before in
-    let l = c .before .loop in
-    l .inv .2 ∙ ap length (all-counted (s .args .n) (s .args .memory .now) (l .i) (s .pre .2) (omega arith) (omega arith))
+returns c =
+    let at-exit = c .before in
+    let at-start = at-exit .before .before in
+    let a = at-start .args in
+    let l = at-exit .loop in
+    l .inv .2 ∙ ap length (all-counted (a .n) (a .memory .now) (l .i) (at-start .pre .2) (omega arith) (omega (arith, mapBlocks-enough (a .n))))
 
 pub count-marked-spec : {M : Type 1} → statement M
 count-marked-spec =
