@@ -1,5 +1,5 @@
 //! Nanoseconds of a call of libmodel.a on a cache beside the plain Rust cache of
-//! `bench/plain.rs`, with a test of the whole state before each call, as the library has, and
+//! `bench/plain.rs`, call by call and in runs of a thousand; with a test of the whole state before each call, as the library has, and
 //! without. `bench/calls.sh harness [ROUNDS]` builds and runs it (default 5): the same million calls
 //! by each, one after the other, the best times count.
 
@@ -18,6 +18,7 @@ const CALLS: usize = 1_000_000;
 extern "C" {
     fn tag_fresh(device: *const u64, device_words: usize, state: *mut u64, words: usize, bytes: *const u8, bytes_length: usize, memory: *mut u8, memory_length: usize) -> u64;
     fn tag_issue(state: *mut u64, words: usize, bytes: *const u8, bytes_length: usize, memory: *const u8, memory_length: usize, x: u64, write: u64, bottom: u64, g: u64, v: u32) -> u64;
+    fn tag_run(state: *mut u64, words: usize, bytes: *mut u8, bytes_length: usize, memory: *mut u8, memory_length: usize, calls: *const u64, calls_words: usize, answers: *mut u64, answers_words: usize) -> u64;
     fn tag_step(state: *mut u64, words: usize, bytes: *mut u8, bytes_length: usize, memory: *mut u8, memory_length: usize, x: u64, answer: *mut u64, answer_words: usize) -> u64;
 }
 
@@ -130,20 +131,48 @@ fn by_library(calls: &[Call], l: u32) -> (f64, u64) {
     (start.elapsed().as_secs_f64(), said)
 }
 
+/// The same by runs of a thousand calls.
+fn by_runs(calls: &[Call], l: u32) -> (f64, u64) {
+    let device = [LEAVES as u64, TRACKERS as u64, l as u64];
+    let words: Vec<u64> = calls
+        .iter()
+        .flat_map(|&call| match call {
+            Call::Issue { x, g, write, bottom } => [1, x as u64, write.is_some() as u64, bottom as u64, g as u64, write.unwrap_or(0) as u64],
+            Call::Step { x } => [2, x as u64, 0, 0, 0, 0],
+        })
+        .collect();
+    let (mut state, mut answers) = ([0u64; STATE], vec![0u64; 6 * 1000]);
+    let mut bytes = vec![0u8; 64 * l as usize];
+    let mut memory = vec![0u8; 64 * (LEAVES + (LEAVES + 511) / 512) as usize];
+    let (s, b, m) = (state.as_mut_ptr(), bytes.as_mut_ptr(), memory.as_mut_ptr());
+    let (bl, ml) = (bytes.len(), memory.len());
+    let (mut said, start) = (0, Instant::now());
+    // Pointers to what stands above, with its own lengths.
+    unsafe {
+        assert_eq!(tag_fresh(device.as_ptr(), 3, s, STATE, b, bl, m, ml), 0);
+        for run in words.chunks(6 * 1000) {
+            assert_eq!(tag_run(s, STATE, b, bl, m, ml, run.as_ptr(), run.len(), answers.as_mut_ptr(), run.len()), 0);
+            said += answers[..run.len()].chunks(6).filter(|one| (3..=5).contains(&one[0])).map(|one| one[2]).sum::<u64>();
+        }
+    }
+    (start.elapsed().as_secs_f64(), said)
+}
+
 fn main() {
     let rounds = std::env::args().nth(1).map_or(5, |word| word.parse().expect("ROUNDS"));
     for l in [9, 64] {
         let calls = drawn(l);
-        let mut best = [f64::MAX; 3];
+        let mut best = [f64::MAX; 4];
         for _ in 0..rounds {
-            let told = [by_library(&calls, l), by_plain(&calls, l, true), by_plain(&calls, l, false)];
+            let told = [by_library(&calls, l), by_runs(&calls, l), by_plain(&calls, l, true), by_plain(&calls, l, false)];
             assert!(told.iter().all(|one| one.1 == told[0].1), "they answer differently");
             told.iter().zip(&mut best).for_each(|(one, best)| *best = best.min(one.0));
         }
-        let [library, tested, bare] = best.map(|seconds| seconds * 1e9 / CALLS as f64);
+        let [library, runs, tested, bare] = best.map(|seconds| seconds * 1e9 / CALLS as f64);
         println!(
-            "L = {l}: a call of libmodel.a {library:.0} ns, plain Rust with the same test {tested:.0} ns, without it {bare:.0} ns; ratio {:.2}",
-            library / tested
+            "L = {l}: a call of libmodel.a {library:.0} ns, in a run of a thousand {runs:.0} ns, plain Rust with the same test {tested:.0} ns, without it {bare:.0} ns; ratios {:.2}, {:.2}",
+            library / tested,
+            runs / bare
         );
     }
 }

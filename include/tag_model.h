@@ -35,6 +35,7 @@ extern "C" {
 #define TAG_BUSY 7     /* tracker x is busy; for a drain or a show, some tracker is */
 #define TAG_IDLE 8     /* tracker x is idle */
 #define TAG_ROOM 9     /* the output is too short */
+#define TAG_FORM 12    /* a call of tag_run has another form */
 #define TAG_MEETS 13   /* another tracker is busy with group g, and one of the two writes */
 
 /* The cache and its trackers.
@@ -87,6 +88,24 @@ uint64_t tag_step(uint64_t *state, size_t state_words, uint8_t *bytes, size_t by
 /* Writes the changed lines to memory and marks them clean. Gives 0. Refused 4, 2, 7. */
 uint64_t tag_drain(uint64_t *state, size_t state_words, const uint8_t *bytes,
                    size_t bytes_length, uint8_t *memory, size_t memory_length);
+
+/* Plays calls one after another on a state that is tested once. A call is TAG_CALL_WORDS
+ * words: what it is, x, write, bottom, g, v, as tag_issue takes them; a step needs x alone, a
+ * drain none, and their other words are not read. Each has TAG_ANSWER_WORDS words of
+ * answers, in order: for a step those of tag_step; for an accepted issue or drain the first
+ * is TAG_ACCEPTED; for a refused call the first is the number that the call itself would
+ * give, and the call changes nothing; the rest are 0. A call of another number, and an issue
+ * whose v has more than 32 bits, are refused with TAG_FORM. Gives 0, whatever its calls are
+ * given. Refused 4, 2, and then no call is played: 2 too, before all else, where the words of
+ * calls are no number of calls, or those of answers are not of as many. */
+#define TAG_CALL_WORDS 6
+#define TAG_ISSUE 1
+#define TAG_STEP 2
+#define TAG_DRAIN 3
+#define TAG_ACCEPTED 0
+uint64_t tag_run(uint64_t *state, size_t state_words, uint8_t *bytes, size_t bytes_length,
+                 uint8_t *memory, size_t memory_length, const uint64_t *calls,
+                 size_t calls_words, uint64_t *answers, size_t answers_words);
 
 /* Where the 64 bytes of leaf k are: 0 where it has none, else 1 plus their place in the line
  * bytes, or TAG_IN_MEMORY plus 1 plus their place in memory. Refused 4, 2, 6, 7. */

@@ -5,12 +5,12 @@ use crate::driver::Argument::{Change, Number, Read};
 use crate::driver::{Driver, Function};
 use crate::model::draw::{damages, true_memory, Random};
 use crate::model::{encode_as, memory_length, record, records_of, restore, write_image, IMAGE_BLOCK, RECORD, RECORDS, RECORDS_AT};
-use crate::{words, Met};
+use crate::met::{Met, REFUSED};
+use crate::words;
 
 const WRITE_IMAGE: Function = Function(7, "tag_write_image");
 const RESTORE: Function = Function(8, "tag_restore");
 const RECORD_AT: Function = Function(9, "tag_record");
-const REFUSED: u64 = 1 << 32;
 
 fn number(said: Result<usize, u64>) -> u64 {
     said.map_or_else(|no| REFUSED + no, |value| value as u64)

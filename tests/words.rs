@@ -2,7 +2,7 @@
 //! they say. Written from that page, not from the library.
 
 use crate::model::{
-    in_limits, leaf_of, map_of, Access, Block, Line, Machine, Phase, Tracker,
+    in_limits, leaf_of, map_of, Access, Answer, Block, Line, Machine, Phase, Tracker,
 };
 
 /// n, T, L and the hand; 64 lines; 8 trackers of 6 words.
@@ -130,6 +130,22 @@ pub fn begun(n: u64, t: u64, l: u64) -> Vec<u64> {
     let mut words = vec![0; STATE];
     words[..3].copy_from_slice(&[n, t, l]);
     words
+}
+
+/// The words of an answer.
+pub const ANSWER: usize = 6;
+
+/// What was said, as words; a refusal is the number that its call gives.
+pub fn answer(said: Result<Answer, u64>) -> [u64; ANSWER] {
+    match said {
+        Ok(Answer::Ok) => [0; ANSWER],
+        Ok(Answer::Wait) => [1, 0, 0, 0, 0, 0],
+        Ok(Answer::Moved) => [2, 0, 0, 0, 0, 0],
+        Ok(Answer::Read(v, turns)) => [3, v as u64, turns as u64, 0, 0, 0],
+        Ok(Answer::Done(turns)) => [4, 0, turns as u64, 0, 0, 0],
+        Ok(Answer::Same(turns)) => [5, 0, turns as u64, 0, 0, 0],
+        Ok(Answer::No(no)) | Err(no) => [(1 << 32) + no, 0, 0, 0, 0, 0],
+    }
 }
 
 pub fn bytes(words: &[u64]) -> Vec<u8> {

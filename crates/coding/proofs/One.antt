@@ -13,7 +13,7 @@ use Rattle.cache.specs.declared.State.{State}
 use Rattle.cache.specs.Seen.{seen}
 use Rattle.cache.proofs.One.{seen-one}
 use Rattle.coding.specs.Words.{stateWords, coded, decoded, codes}
-use Rattle.coding.specs.Answer.{numberOf, answerWords, answerCoded}
+use Rattle.coding.specs.Answer.{numberOf, answerWords, saidCoded, answerCoded}
 
 pub codes-one : (w : List ℕ) {r s : Bool} → r ≡ codes w → s ≡ codes w → r ≡ s
 codes-one w p q = p ∙ sym q
@@ -28,6 +28,10 @@ encode-one s w p q = p ∙ sym q
 
 pub number-of-one : (answer : Answer) {r s : ℕ} → r ≡ numberOf (says answer) → s ≡ numberOf (says answer) → r ≡ s
 number-of-one answer p q = p ∙ sym q
+
+pub put-said-one : (answer : Answer) (w : List ℕ) {a b : List ℕ}
+    → a ≡ pick (eqb (length w) answerWords) (saidCoded (says answer)) w → b ≡ pick (eqb (length w) answerWords) (saidCoded (says answer)) w → a ≡ b
+put-said-one answer w p q = p ∙ sym q
 
 pub put-answer-one : (answer : Answer) (w : List ℕ) {a b : List ℕ}
     → a ≡ pick (eqb (length w) answerWords) (answerCoded (says answer) w) w → b ≡ pick (eqb (length w) answerWords) (answerCoded (says answer) w) w → a ≡ b

@@ -1,7 +1,7 @@
 -- What each turn of a loop over the words does, and what a state's words are below.
 use mathlib.Core.Path.{_≡_, refl, ap, sym, _∙_}
 use mathlib.Core.List.{List, [], _∷_, _++_, append-nil, append-assoc}
-use mathlib.Core.Bool.{true}
+use mathlib.Core.Bool.{Bool, true, false}
 use Prim.Native.Nat.{ℕ, zero, suc, _+_, _*_, _≤_, _<_}
 use native.Mathlib.Numerals.{add-one}
 use native.Mathlib.Omega.{arith}
@@ -22,7 +22,7 @@ use Rattle.tracker.specs.Tracker.{idle}
 use Rattle.rules.specs.State.{State}
 use Rattle.tracker.specs.declared.Answer.{Answer}
 use Rattle.tracker.specs.Answer.{says}
-use Rattle.coding.specs.Answer.{answerCoded}
+use Rattle.coding.specs.Answer.{numberOf, saidCoded, answerCoded}
 use Rattle.coding.specs.Words.{trackerPlace, stateWords, shapeCoded, coded, phaseOf, trackerCoded, trackersCoded, trackerIn, trackersTo, codesTracker, codesLine, codes}
 use Rattle.laws.proofs.Stores.{part-1, splice-all}
 use Rattle.coding.proofs.Trackers.{length-trackers, trackers-more}
@@ -146,12 +146,24 @@ module _ (w : List ℕ) (ts : List Tracker) (e : length w ≡ 116) (k : length t
   trackers-written h = ap (λ (us : List Tracker). splice w 68 (trackersCoded us)) (take-all x ts (omega arith))
 
 -- an answer's words
-pub answer-is : (w : List ℕ) {r : List ℕ} {answer a : Answer} → length w ≡ 6 → answer ≡ a → r ≡ answerCoded (says a) w
-    → r ≡ pick (eqb (length w) 6) (answerCoded (says answer) w) w
-answer-is w e q p = rw (eq-eqb (length w) 6 e, q) p
+pub said-is : (w : List ℕ) {r : List ℕ} {answer a : Answer} → length w ≡ 6 → answer ≡ a → r ≡ saidCoded (says a)
+    → r ≡ pick (eqb (length w) 6) (saidCoded (says answer)) w
+said-is w e q p = rw (eq-eqb (length w) 6 e, q) p
 
-pub answer-not : (w : List ℕ) (answer : Answer) → (length w ≡ 6 → ⊥) → w ≡ pick (eqb (length w) 6) (answerCoded (says answer) w) w
-answer-not w answer h = rw (ne-eqb (length w) 6 h)
+pub said-not : (w : List ℕ) (answer : Answer) → (length w ≡ 6 → ⊥) → w ≡ pick (eqb (length w) 6) (saidCoded (says answer)) w
+said-not w answer h = rw (ne-eqb (length w) 6 h)
+
+-- refused, or not
+module _ (w : List ℕ) (answer : Answer) {c : ℕ} (q : c ≡ numberOf (says answer)) where
+  pub answer-no : 0 < c → w ≡ pick (eqb (length w) 6) (answerCoded (says answer) w) w
+  answer-no h = rw (← q, ne-eqb c 0 (λ z. absurd (omega arith))) (pick-same (eqb (length w) 6))
+    where
+      pick-same : (b : Bool) → w ≡ pick b w w
+      pick-same true = refl
+      pick-same false = refl
+
+  pub answer-is : {r : List ℕ} → c ≡ 0 → r ≡ pick (eqb (length w) 6) (saidCoded (says answer)) w → r ≡ pick (eqb (length w) 6) (answerCoded (says answer) w) w
+  answer-is z p = rw (← q, eq-eqb c 0 z) p
 
 -- a state written part by part is its coding
 module _ (s : State) (lined : length (s .lines) ≡ 64) (tracked : length (s .trackers) ≡ 8) where

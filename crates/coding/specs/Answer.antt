@@ -1,6 +1,8 @@
 -- What a call says, as words: the number that it gives, and the words of a step's answer.
 use mathlib.Core.List.{List, [], _∷_}
 use Prim.Native.Nat.{ℕ, _+_}
+use lib.Dec.{eqb}
+use Rattle.laws.specs.Choice.{pick}
 use Rattle.tracker.specs.Answer.{Said, ok, wait, moved, read, done, same, no}
 
 -- "0 .. or 4,294,967,296 plus the refusal"
@@ -23,12 +25,16 @@ answerWords = 6
 abbrev pub answerOf : ℕ → ℕ → ℕ → List ℕ
 answerOf said v k = said ∷ v ∷ k ∷ 0 ∷ 0 ∷ 0 ∷ []
 
--- "1 wait, 2 moved, 3 read, 4 done, 5 same"; refused, the words stay as they came
+-- "1 wait, 2 moved, 3 read, 4 done, 5 same"; an accepted issue or drain is 0, and a refusal the number that its call gives
+abbrev pub saidCoded : Said → List ℕ
+saidCoded ok = answerOf 0 0 0
+saidCoded wait = answerOf 1 0 0
+saidCoded moved = answerOf 2 0 0
+saidCoded (read v k) = answerOf 3 v k
+saidCoded (done k) = answerOf 4 0 k
+saidCoded (same k) = answerOf 5 0 k
+saidCoded (no c) = answerOf (refusedBy c) 0 0
+
+-- the words of a step's answer; refused, they stay as they came
 abbrev pub answerCoded : Said → List ℕ → List ℕ
-answerCoded ok w = w
-answerCoded wait w = answerOf 1 0 0
-answerCoded moved w = answerOf 2 0 0
-answerCoded (read v k) w = answerOf 3 v k
-answerCoded (done k) w = answerOf 4 0 k
-answerCoded (same k) w = answerOf 5 0 k
-answerCoded (no c) w = w
+answerCoded s w = pick (eqb (numberOf s) 0) (saidCoded s) w

@@ -19,7 +19,7 @@ ghost use Rattle.tracker.specs.Answer.{says};
 ghost use Rattle.rules.specs.State.{zeroState};
 ghost use Rattle.cache.specs.Seen.{seen};
 ghost use Rattle.coding.specs.Words.{trackerWords, linesPlace, trackerPlace, stateWords, phaseNumber, trackerCoded, trackersCoded, shapeCoded, coded, phaseOf, trackerIn, trackersTo, shapeIn, decoded, codesTracker, codesLine, codes};
-ghost use Rattle.coding.specs.Answer.{numberOf, answerWords, answerOf, answerCoded};
+ghost use Rattle.coding.specs.Answer.{numberOf, answerWords, answerOf, saidCoded, answerCoded};
 
 // The words of a tracker.
 pub const TRACKER_WORDS: usize = 6;
@@ -350,20 +350,30 @@ fn put_words(words: &mut [u64], said: u64, v: u32, k: u16)
     words[5] = 0;
 }
 
-// The words become those of a step's answer, where there are as many as an answer has; refused, and else, they stay as they came.
-pub fn put_answer(answer: Answer, words: &mut [u64])
-    ensures { λ _. ⌜ now (words .exit) ≡ pick (eqb (length (now (words .entry))) answerWords) (answerCoded (says answer) (now (words .entry))) (now (words .entry)) ⌝ }
+// The words become those of what was said, where there are as many as an answer has; else they stay as they came.
+pub fn put_said(answer: Answer, words: &mut [u64])
+    ensures { λ _. ⌜ now (words .exit) ≡ pick (eqb (length (now (words .entry))) answerWords) (saidCoded (says answer)) (now (words .entry)) ⌝ }
 {
     if words.len() != ANSWER_WORDS {
         return;
     }
     match answer {
-        Answer::Accepted => {}
+        Answer::Accepted => put_words(words, 0, 0, 0),
         Answer::Wait => put_words(words, 1, 0, 0),
         Answer::Moved => put_words(words, 2, 0, 0),
         Answer::Read(v, k) => put_words(words, 3, v, k),
         Answer::Done(k) => put_words(words, 4, 0, k),
         Answer::Same(k) => put_words(words, 5, 0, k),
-        Answer::No(_) => {}
+        Answer::No(c) => put_words(words, REFUSED + c as u64, 0, 0),
     }
+}
+
+// The words become those of a step's answer, where there are as many as an answer has; refused, and else, they stay as they came.
+pub fn put_answer(answer: Answer, words: &mut [u64])
+    ensures { λ _. ⌜ now (words .exit) ≡ pick (eqb (length (now (words .entry))) answerWords) (answerCoded (says answer) (now (words .entry))) (now (words .entry)) ⌝ }
+{
+    if 0 < number_of(answer) {
+        return;
+    }
+    put_said(answer, words);
 }

@@ -1,9 +1,19 @@
 -- Each promise of this crate allows one result for one input: two that it allows give the same number and leave the same words and bytes.
 use mathlib.Core.Path.{_≡_, sym, _∙_}
 use mathlib.Core.List.{List}
-use Prim.Native.Nat.{ℕ}
+use Prim.Native.Nat.{ℕ, _-_}
+use lib.Dec.{ltb}
+use Rattle.laws.specs.Choice.{pick}
+use Rattle.geometry.specs.TagMemory.{values}
 use Rattle.tracker.specs.declared.Access.{Access}
-use Rattle.harness.specs.Calls.{Done, tagFresh, tagOpen, tagIssue, tagDrain, tagStep, tagShow, tagWhole}
+use Rattle.coding.specs.Answer.{refusedBy}
+use Rattle.harness.specs.Calls.{Done, tagFresh, tagOpen, accessOf, tagIssue, tagDrain, tagStep, tagShow, tagWhole}
+
+pub refused-one : (c : ℕ) {x y : ℕ} → x ≡ refusedBy c → y ≡ refusedBy c → x ≡ y
+refused-one c p q = p ∙ sym q
+
+pub access-of-one : (write bottom g v : ℕ) {x y : Access} → x ≡ accessOf write bottom (pick (ltb g values) g (values - 1)) v → y ≡ accessOf write bottom (pick (ltb g values) g (values - 1)) v → x ≡ y
+access-of-one write bottom g v p q = p ∙ sym q
 
 module _ (s bytes memory : List ℕ) {x y : Done} where
   pub fresh-one : (device : List ℕ) → x ≡ tagFresh device s bytes memory → y ≡ tagFresh device s bytes memory → x ≡ y

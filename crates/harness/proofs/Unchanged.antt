@@ -5,6 +5,7 @@ use mathlib.Core.Bool.{false}
 use mathlib.Core.Logic.{_⊎_, inl, inr, ⊎-elim}
 use Prim.Native.Nat.{ℕ, _+_, _<_}
 use native.Mathlib.Omega.{arith}
+use borrow.Author.Tests.{ne-eqb}
 use lib.ListN.{getD, replicate}
 use Rattle.laws.specs.Refusal.{refusal}
 use Rattle.laws.proofs.Refusal.{refusal-0, refusal-hold, refused-or-not, unless-by}
@@ -17,7 +18,7 @@ use Rattle.rules.proofs.Keeps.{isNo}
 use Rattle.rules.proofs.Calls.{step-free, step-not-refused}
 use Rattle.cache.proofs.Refusals.{step-refused}
 use Rattle.coding.specs.Words.{coded, decoded, trackersCoded, trackerCoded}
-use Rattle.coding.specs.Answer.{numberOf}
+use Rattle.coding.specs.Answer.{refusedBy, numberOf, answerCoded}
 use Rattle.coding.proofs.Inverse.{coded-decoded}
 use Rattle.harness.specs.Calls.{Done, begins, tagFresh, tagOpen, wordTests, called, tagIssue, tagDrain, stepTests, tagStep}
 
@@ -83,13 +84,16 @@ module _ (s : State) (bytes memory : List ℕ) (x : ℕ) where
           let r = step-free s bytes memory (q .0) (q .1 .0) x (refusal-0 (calls.stepTests (s .shape) x (s .trackers)) (q .1 .1)) in
           step-not-refused s bytes memory (q .0) (q .1 .0) x (r .0) (r .1)
 
+no-answer : (c : ℕ) (answer : List ℕ) → answerCoded (no c) answer ≡ answer
+no-answer c answer = rw (ne-eqb (refusedBy c) 0 (λ e. absurd (omega arith)))
+
 module _ (w bytes memory : List ℕ) (x : ℕ) (answer : List ℕ) where
   pub step-same : 0 < tagStep w bytes memory x answer .0 .number → Same (tagStep w bytes memory x answer .0) w bytes memory × (tagStep w bytes memory x answer .1 ≡ answer)
   unfolding tagStep
   step-same =
       unless-by _ _ (λ (d : Done × List ℕ). 0 < d .0 .number → Same (d .0) w bytes memory × (d .1 ≡ answer))
-      (λ e h. let q = step-stays (decoded w) bytes memory x h .1 in
-      rw q ((coded-decoded w (refusal-hold (stepTests w answer) refl e .1 .1 .0), refl, refl), refl))
+      (λ e h. let q = step-stays (decoded w) bytes memory x h in
+      rw (q .1) ((coded-decoded w (refusal-hold (stepTests w answer) refl e .1 .1 .0), refl, refl), no-answer (q .0) answer))
       (λ p h. ((refl, refl, refl), refl))
 
 -- of fresh and open: the zero state's words are zero

@@ -26,7 +26,7 @@ const MOST_GROUP: u64 = 4294967295;
 const IN_MEMORY: u64 = 1099511627776;
 
 // What a refused call gives.
-fn refused(c: u8) -> u64
+pub fn refused(c: u8) -> u64
     ensures { λ r. ⌜ r ≡ refusedBy c ⌝ }
 {
     coding::REFUSED + c as u64
@@ -71,7 +71,7 @@ pub fn open(device: &[u64], state: &mut [u64], bytes: &[u8], memory: &[u8]) -> u
 }
 
 // The access that the numbers say. A group too large for it becomes the largest, which no memory has either.
-fn access_of(write: u64, bottom: u64, g: u64, v: u32) -> Access
+pub fn access_of(write: u64, bottom: u64, g: u64, v: u32) -> Access
     ensures { λ r. ⌜ r ≡ accessOf write bottom (pick (ltb g values) g (values - 1)) v ⌝ }
 {
     if g <= MOST_GROUP {

@@ -1,5 +1,6 @@
 // 01 "The cache" for C, with the state as lent words: each is the library's call itself.
 ghost use mathlib.Core.Path.{_≡_};
+ghost use Rattle.running.specs.Run.{tagRun};
 ghost use Rattle.harness.specs.Calls.{done, tagFresh, tagOpen, accessOf, tagIssue, tagStep, tagDrain, tagShow, tagWhole};
 
 // A fresh memory under a device, n, T and L: 0, or 4,294,967,296 plus the refusal.
@@ -76,4 +77,18 @@ pub extern "C" fn tag_whole(state: &[u64]) -> u64
     ensures { λ r. ⌜ r ≡ tagWhole (now (state .entry)) ⌝ }
 {
     harness::whole(state)
+}
+
+// Calls played one after another, each with its answer's words: 0, or 4,294,967,296 plus the refusal.
+#[no_mangle]
+pub extern "C" fn tag_run(
+    state: &mut [u64],
+    bytes: &mut [u8],
+    memory: &mut [u8],
+    calls: &[u64],
+    answers: &mut [u64],
+) -> u64
+    ensures { λ r. ⌜ (done r (now (state .exit)) (now (bytes .exit)) (now (memory .exit)), now (answers .exit)) ≡ tagRun (now (state .entry)) (now (bytes .entry)) (now (memory .entry)) (now (calls .entry)) (now (answers .entry)) ⌝ }
+{
+    running::run(state, bytes, memory, calls, answers)
 }

@@ -21,14 +21,14 @@ use Rattle.rules.specs.Step.{Turned}
 use Rattle.rules.specs.Calls.{Out, stepped}
 use Rattle.rules.specs.Run.{Kept}
 use Rattle.rules.proofs.Calls.{Sound}
-use Rattle.rules.proofs.Whole.{whole-facts, t-least, t-most}
 use Rattle.placing.specs.Lines.{rows}
 use Rattle.outcome.specs.declared.Turned as left
 use Rattle.outcome.specs.Steps.{turned}
-use Rattle.play.specs.Turn.{named, lineTurn}
-use Rattle.play.specs.Play.{Played, follows, refuses, lineEnd, goesOn, after, lineDone, played}
+use Rattle.turn.specs.declared.Asked.{Asked}
+use Rattle.turn.specs.Turn.{named, takes, askedTurn}
+use Rattle.turn.proofs.Does.{named-most, takes-turn, takes-kept}
+use Rattle.play.specs.Play.{Played, askedBy, follows, refuses, lineEnd, goesOn, after, lineDone, played}
 use Rattle.play.proofs.Chunk.{goesOn-end, taken-more, played-stops, played-turn}
-use Rattle.play.proofs.Follows.{named-lt, follows-turn, follows-kept}
 
 -- what is left to do from p on is all that was to do from `begun` on
 pub record Rest (rule : Kept → Asks → Out) (input : List ℕ) (begun p : Played) : Type 0 where
@@ -57,7 +57,7 @@ pub going-more : (input : List ℕ) {begun p : Played} → Going input begun p �
 unfolding lineDone
 going-more input {begun} {p} g h =
     let a : Asks = asksFor (part input (p .taken) (lineEnd input (p .taken) - p .taken)) in
-    let k : Sound (p .kept .state .shape) (follows (p .kept) a) = follows-kept (p .kept .state) (p .kept .bytes) (p .kept .memory) (g .is-whole) (g .right) a in
+    let k : Sound (p .kept .state .shape) (follows (p .kept) a) = takes-kept (p .kept .state) (p .kept .bytes) (p .kept .memory) (g .is-whole) (g .right) (askedBy a) in
     record { rest = rest-more follows input (g .rest) h; is-whole = k .is-whole; right = k .right }
 
 pub goesOn-fits : (input : List ℕ) (p : Played) → goesOn input p ≡ true → fits (p .output) (p .written) most ≡ true
@@ -98,26 +98,28 @@ done-at rule input p e a ee ae = rw (ae, ee) refl
 
 -- one more line, as the code does it
 pub going-line : (input : List ℕ) {begun : Played} (shape : Shape) (lines : List ℕ) (trackers : List Tracker) (bytes memory : List ℕ) (number taken : ℕ) (output : List ℕ) (written : ℕ)
-    (e x : ℕ) (a : Asks) (q : left.Turned) {lines' bytes' memory' output' : List ℕ} {written' : ℕ}
+    (e x : ℕ) (a : Asks) (b : Asked) (q : left.Turned) {lines' bytes' memory' output' : List ℕ} {written' : ℕ}
     → Going input begun (under shape lines trackers bytes memory number taken output written)
     → goesOn input (under shape lines trackers bytes memory number taken output written) ≡ true
     → e ≡ lineEnd input taken
     → a ≡ asksFor (part input taken (e - taken))
-    → x ≡ named (shape .t) a
-    → turned q lines' bytes' memory' ≡ lineTurn shape a trackers (trackerAt trackers x) (rows lines bytes memory)
+    → b ≡ askedBy a
+    → x ≡ named (shape .t) b
+    → turned q lines' bytes' memory' ≡ askedTurn shape b trackers (trackerAt trackers x) (rows lines bytes memory)
     → output' ≡ splice output written (lineIn output written (number + 1) (says (q .answer)))
     → written' ≡ written + length (lineIn output written (number + 1) (says (q .answer)))
     → Going input begun (under (q .shape) lines' (set trackers x (q .tracker)) bytes' memory' (number + 1) (e + 1) output' written')
-going-line input {begun} shape lines trackers bytes memory number taken output written e x a q g h ee ae xe st o v =
+going-line input {begun} shape lines trackers bytes memory number taken output written e x a b q g h ee ae be xe st o v =
     let s : State = record { shape = shape; lines = lines; trackers = trackers } in
     let p : Played = under shape lines trackers bytes memory number taken output written in
     let told-is = told s number taken output written e x bytes memory q (goesOn-fits input p h) st o v in
-    let done : follows (record { state = s; bytes = bytes; memory = memory }) a ≡ stepped s (named (shape .t) a) (lineTurn shape a trackers (trackerAt trackers (named (shape .t) a)) (rows lines bytes memory)) =
-    follows-turn s bytes memory (g .is-whole) (g .right) a in
+    let done : takes (p .kept) b ≡ stepped s (named (shape .t) b) (askedTurn shape b trackers (trackerAt trackers (named (shape .t) b)) (rows lines bytes memory)) =
+    takes-turn s bytes memory (g .is-whole) (g .right) b in
     subst (λ (z : Played). Going input begun z)
     (sym (told-is
-    ∙ ap (λ (y : ℕ). after p e (stepped s y (lineTurn shape a trackers (trackerAt trackers y) (rows lines bytes memory)))) xe
+    ∙ ap (λ (y : ℕ). after p e (stepped s y (askedTurn shape b trackers (trackerAt trackers y) (rows lines bytes memory)))) xe
     ∙ ap (λ (d : Out). after p e d) (sym done)
+    ∙ ap (λ (c : Asked). after p e (takes (p .kept) c)) be
     ∙ done-at follows input p e a ee ae))
     (going-more input g h)
 
@@ -156,11 +158,6 @@ going-stops input shape lines trackers bytes memory number output {p} {ls} a b g
     rest-stops follows input (g .rest) h ∙ ap (λ (x : List ℕ). played follows (length input) input (under shape x trackers bytes memory number 0 output 0)) a
     ∙ ap (λ (x : List Tracker). played follows (length input) input (under shape ls x bytes memory number 0 output 0)) b
 
--- the tracker that a line names is in the table
-pub going-named : (input : List ℕ) {begun p : Played} → Going input begun p → (a : Asks) → named (p .kept .state .shape .t) a < mostTrackers
-going-named input {begun} {p} g a =
-    let f = whole-facts (p .kept .state) (g .is-whole) .limits-ok in
-    let lo = t-least (p .kept .state .shape) f in
-    let hi = t-most (p .kept .state .shape) f in
-    let b = named-lt (p .kept .state .shape .t) a (omega arith) in
-    omega arith
+-- the tracker that is named is in the table
+pub going-named : (input : List ℕ) {begun p : Played} → Going input begun p → (a : Asked) → named (p .kept .state .shape .t) a < mostTrackers
+going-named input {begun} {p} g a = named-most (p .kept .state) (g .is-whole) a

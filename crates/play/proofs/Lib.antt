@@ -1,5 +1,4 @@
 pub mod Chunk
-pub mod Follows
 pub mod Going
 pub mod Ways
 pub mod Texts

@@ -1,5 +1,5 @@
 -- A law for each way out of each function, from what the code has tested.
-use mathlib.Core.Path.{_≡_, refl, sym, _∙_}
+use mathlib.Core.Path.{_≡_, refl}
 use mathlib.Core.Bool.{Bool, true, false}
 use mathlib.Core.List.{List}
 use Prim.Native.Nat.{ℕ, _+_, _-_, _≤_, _<_}
@@ -8,115 +8,35 @@ use lib.Dec.{eqb, ltb}
 use lib.ListN.{length, getD}
 use borrow.Author.Tests.{ltb-true, lt-ltb, le-ltb, le-leb, lt-leb, eq-eqb, ne-eqb}
 use Rattle.laws.specs.Refusal.{refusal, unless}
-use Rattle.laws.proofs.Refusal.{unless-0, unless-no}
-use Rattle.laws.specs.Choice.{pick, both}
+use Rattle.laws.specs.Choice.{both}
 use Rattle.laws.specs.Bytes.{fits}
-use Rattle.laws.specs.Scan.{all, first}
+use Rattle.laws.specs.Scan.{first}
 use Rattle.laws.proofs.Choice.{both-left, both-right, both-false-left, both-false-right}
 use Rattle.laws.proofs.Scan.{first-zero, first-hit, first-miss}
-use Rattle.geometry.specs.declared.Shape.{Shape}
 use Rattle.tracker.specs.declared.Access.{Access}
-use Rattle.tracker.specs.declared.Tracker.{Tracker}
-use Rattle.tracker.specs.Tracker.{isIdle, readOf, writeOf, issued}
+use Rattle.tracker.specs.Tracker.{readOf, writeOf}
 use Rattle.tracker.specs.Answer.{no}
 use Rattle.script.specs.declared.Command.{Command}
-use Rattle.script.specs.declared.Command.the-variants.{New, Read, Write, Step, Drain, Bad}
+use Rattle.script.specs.declared.Command.the-variants as command
 use Rattle.script.specs.Script.{news, asks}
 use Rattle.geometry.specs.TagMemory.{inLimits}
-use Rattle.rules.specs.State.{State, Rows, trackerAt, lengthsRight, zeroState}
+use Rattle.rules.specs.State.{State, lengthsRight, zeroState}
 use Rattle.rules.specs.Whole.{limits, whole}
-use Rattle.rules.specs.Step.{refuses, turnOf}
-use Rattle.rules.specs.Calls.{Out, refused, fresh, issueTests, stepTests, drainTests}
+use Rattle.rules.specs.Calls.{Out, refused, fresh}
 use Rattle.rules.specs.Run.{Kept}
-use Rattle.placing.specs.Lines.{drainedRows}
-use Rattle.play.specs.Turn.{named, accepts, issueTurn, stepTurn, drainTurn, lineTurn}
-use Rattle.play.specs.Play.{replayLeaves, begins, follows, lineEnd, starts, played, plays}
+use Rattle.turn.specs.declared.Asked.the-variants.{Issue, Step}
+use Rattle.play.specs.Play.{replayLeaves, begins, askedBy, follows, lineEnd, starts, played, plays}
 
--- refused with c, or not
-module _ (shape : Shape) (x : ℕ) (a : Access) (us : List Tracker) (u : Tracker) (r : Rows) (c : ℕ) (e : c ≡ refusal (issueTests shape x a us)) where
-  pub issue-no : 0 < c → issueTurn shape x a us u r ≡ refuses c u shape r
-  unfolding issueTurn
-  issue-no h = rw (← e) (unless-no _ _ h)
+-- what a command asks for
+module _ {c : Command} where
+  pub asked-read : {x g : ℕ} {bottom : Bool} {a : Access} → c ≡ command.Read x g bottom → a ≡ readOf bottom g → Issue x a ≡ askedBy (asks c)
+  asked-read e q = rw (e, q) refl
 
-  pub issue-ok : c ≡ 0 → issueTurn shape x a us u r ≡ accepts shape (issued a) r
-  unfolding issueTurn
-  issue-ok z = unless-0 _ _ (sym e ∙ z)
+  pub asked-write : {x g v : ℕ} {bottom : Bool} {a : Access} → c ≡ command.Write x g v bottom → a ≡ writeOf bottom g v → Issue x a ≡ askedBy (asks c)
+  asked-write e q = rw (e, q) refl
 
-module _ (shape : Shape) (x : ℕ) (us : List Tracker) (u : Tracker) (r : Rows) (c : ℕ) (e : c ≡ refusal (stepTests shape x us)) where
-  pub step-no : 0 < c → stepTurn shape x us u r ≡ refuses c u shape r
-  unfolding stepTurn
-  step-no h = rw (← e) (unless-no _ _ h)
-
-  pub step-ok : c ≡ 0 → stepTurn shape x us u r ≡ turnOf shape x u r
-  unfolding stepTurn
-  step-ok z = unless-0 _ _ (sym e ∙ z)
-
-module _ (shape : Shape) (us : List Tracker) (u : Tracker) (r : Rows) (c : ℕ) (e : c ≡ refusal (drainTests (all (λ y. isIdle (trackerAt us y)) (shape .t)))) where
-  pub drain-no : 0 < c → drainTurn shape us u r ≡ refuses c u shape r
-  unfolding drainTurn
-  drain-no h = rw (← e) (unless-no _ _ h)
-
-  pub drain-ok : c ≡ 0 → drainTurn shape us u r ≡ accepts shape u (drainedRows shape r)
-  unfolding drainTurn
-  drain-ok z = unless-0 _ _ (sym e ∙ z)
-
--- a line by its command
-module _ (shape : Shape) {c : Command} (us : List Tracker) (u : Tracker) (r : Rows) where
-  pub line-new : {a b d : ℕ} → c ≡ New a b d → lineTurn shape (asks c) us u r ≡ refuses 12 u shape r
-  unfolding lineTurn
-  line-new e = rw e
-
-  pub line-read : {x g : ℕ} {bottom : Bool} {a : Access} → c ≡ Read x g bottom → a ≡ readOf bottom g → lineTurn shape (asks c) us u r ≡ issueTurn shape x a us u r
-  unfolding lineTurn
-  line-read e q = rw (e, q) refl
-
-  pub line-write : {x g v : ℕ} {bottom : Bool} {a : Access} → c ≡ Write x g v bottom → a ≡ writeOf bottom g v → lineTurn shape (asks c) us u r ≡ issueTurn shape x a us u r
-  unfolding lineTurn
-  line-write e q = rw (e, q) refl
-
-  pub line-step : {x : ℕ} → c ≡ Step x → lineTurn shape (asks c) us u r ≡ stepTurn shape x us u r
-  unfolding lineTurn
-  line-step e = rw e
-
-  pub line-drain : c ≡ Drain → lineTurn shape (asks c) us u r ≡ drainTurn shape us u r
-  unfolding lineTurn
-  line-drain e = rw e
-
-  pub line-bad : c ≡ Bad → lineTurn shape (asks c) us u r ≡ refuses 12 u shape r
-  unfolding lineTurn
-  line-bad e = rw e
-
--- the tracker that a command names
-pub below-is : (t x : ℕ) → x < t → pick (ltb x t) x 0 ≡ x
-below-is t x q = rw (lt-ltb _ _ q)
-
-pub below-not : (t x : ℕ) → t ≤ x → pick (ltb x t) x 0 ≡ 0
-below-not t x q = rw (le-ltb _ _ q)
-
-module _ (t : ℕ) {c : Command} where
-  pub named-new : {a b d : ℕ} → c ≡ New a b d → named t (asks c) ≡ 0
-  unfolding named
-  named-new e = rw e
-
-  pub named-read : {x g : ℕ} {bottom : Bool} → c ≡ Read x g bottom → named t (asks c) ≡ pick (ltb x t) x 0
-  unfolding named
-  named-read e = rw e
-
-  pub named-write : {x g v : ℕ} {bottom : Bool} → c ≡ Write x g v bottom → named t (asks c) ≡ pick (ltb x t) x 0
-  unfolding named
-  named-write e = rw e
-
-  pub named-step : {x : ℕ} → c ≡ Step x → named t (asks c) ≡ pick (ltb x t) x 0
-  unfolding named
-  named-step e = rw e
-
-  pub named-drain : c ≡ Drain → named t (asks c) ≡ 0
-  unfolding named
-  named-drain e = rw e
-
-  pub named-bad : c ≡ Bad → named t (asks c) ≡ 0
-  unfolding named
-  named-bad e = rw e
+  pub asked-step : {x : ℕ} → c ≡ command.Step x → Step x ≡ askedBy (asks c)
+  asked-step e = rw e refl
 
 -- the line's end
 abbrev pub newlineAt : List ℕ → (at : ℕ) → ℕ → Bool

@@ -1,4 +1,3 @@
 pub mod Play
 pub mod Lines
-pub mod Turn
 pub mod Seen

@@ -13,8 +13,10 @@ use Rattle.text.specs.Text.{lineText, most}
 use Rattle.rules.specs.State.{lengthsRight, zeroState}
 use Rattle.rules.specs.Whole.{whole}
 use Rattle.rules.specs.Calls.{Out, refused, fresh}
-use Rattle.rules.specs.Run as run
-use Rattle.rules.specs.Run.{Kept, kept, does}
+use Rattle.rules.specs.Run.{Kept, kept}
+use Rattle.turn.specs.declared.Asked.{Asked}
+use Rattle.turn.specs.declared.Asked.the-variants.{Other, Issue, Step, Drain}
+use Rattle.turn.specs.Turn.{takes}
 
 -- "Line 1: `n N L T`, N at most 800 here (else refusal 1)"; a first line of another form gets 12
 abbrev pub replayLeaves : ℕ
@@ -29,13 +31,16 @@ begins drains bytes memory = refused 12 zeroState bytes memory
 begins bad bytes memory = refused 12 zeroState bytes memory
 
 -- "Then `r T G O`, `w T G V O`, `s T`, `d`: issue a read or write, step, drain. .. Other lines, a later `n` .. get 12."
+abbrev pub askedBy : Asks → Asked
+askedBy (news n l t) = Other
+askedBy (reads x g b) = Issue x (readOf b g)
+askedBy (writes x g v b) = Issue x (writeOf b g v)
+askedBy (steps x) = Step x
+askedBy drains = Drain
+askedBy bad = Other
+
 abbrev pub follows : Kept → Asks → Out
-follows k (news n l t) = refused 12 (k .state) (k .bytes) (k .memory)
-follows k (reads x g b) = does k (run.issues x (readOf b g))
-follows k (writes x g v b) = does k (run.issues x (writeOf b g v))
-follows k (steps x) = does k (run.steps x)
-follows k drains = does k run.drains
-follows k bad = refused 12 (k .state) (k .bytes) (k .memory)
+follows k a = takes k (askedBy a)
 
 -- what a chunk of a script leaves: what is passed on, the number of the last line done, the bytes taken of the chunk, the output and how much of it is written
 pub record Played : Type 0 where

@@ -5,30 +5,25 @@ use cache::Out;
 use cache::State;
 use geometry::Geometry;
 use geometry::Shape;
-use outcome::Turned;
 use script::Command;
 use tracker::Access;
 use tracker::Answer;
 use tracker::Tracker;
+use turn::Asked;
 ghost use mathlib.Core.Path.{_≡_};
-ghost use mathlib.Core.List.{List};
 ghost use mathlib.Core.Bool.{true};
-ghost use Prim.Native.Nat.{ℕ, _+_, _<_, _≤_};
+ghost use Prim.Native.Nat.{_+_, _<_, _≤_};
 ghost use lib.Dec.{ltb};
 ghost use lib.ListN.{length};
-ghost use Rattle.laws.specs.Choice.{pick, both};
+ghost use Rattle.laws.specs.Choice.{both};
 ghost use Rattle.laws.specs.Bytes.{fits};
 ghost use Rattle.text.specs.Text.{most};
 ghost use Rattle.script.specs.Script.{asks, news};
-ghost use Rattle.geometry.specs.TagMemory.{mostLines, mostTrackers};
 ghost use Rattle.rules.specs.State.{lengthsRight, zeroState};
 ghost use Rattle.rules.specs.Whole.{whole};
 ghost use Rattle.rules.specs.Calls.{refused};
 ghost use Rattle.rules.specs.Run.{Kept};
-ghost use Rattle.placing.specs.Lines.{rows};
-ghost use Rattle.outcome.specs.Steps.{turned};
-ghost use Rattle.play.specs.Turn.{named, issueTurn, stepTurn, drainTurn, lineTurn};
-ghost use Rattle.play.specs.Play.{begins, lineEnd, follows, starts, played, plays, refusesAll};
+ghost use Rattle.play.specs.Play.{begins, askedBy, lineEnd, follows, starts, played, plays, refusesAll};
 ghost use Rattle.cache.specs.Seen.{seen, did};
 ghost use Rattle.play.specs.Seen.{kept, left, leftRefused};
 
@@ -50,111 +45,19 @@ pub struct Refused {
     pub written: usize,
 }
 
-// Issue to tracker x: 5, 6, 7, 13.
-fn issue(
-    shape: Shape,
-    x: u32,
-    access: Access,
-    trackers: [Tracker; Geometry::MOST_TRACKERS],
-    u: Tracker,
-) -> Turned
-    ensures { λ r. ⌜ ((ls bs m : List ℕ) → turned r ls bs m ≡ issueTurn shape x access trackers u (rows ls bs m)) ⌝ }
-{
-    let c = whole::issue_refusal(shape, x as u64, access, trackers);
-    if 0 < c {
-        return outcome::refuses(c, shape, u);
-    }
-    Turned {
-        shape,
-        tracker: Tracker::begin(access),
-        answer: Answer::Accepted,
-    }
-}
-
-// Step of tracker x, which is u: 5, 8.
-fn one_step(
-    shape: Shape,
-    x: u32,
-    trackers: [Tracker; Geometry::MOST_TRACKERS],
-    u: Tracker,
-    lines: &mut [u32],
-    bytes: &mut [u8],
-    memory: &mut [u8],
-) -> Turned
-    ensures { λ r. ⌜ turned r (now (lines .exit)) (now (bytes .exit)) (now (memory .exit)) ≡ stepTurn shape x trackers u (rows (now (lines .entry)) (now (bytes .entry)) (now (memory .entry))) ⌝ }
-{
-    let c = whole::step_refusal(shape, x as u64, trackers);
-    if 0 < c {
-        return outcome::refuses(c, shape, u);
-    }
-    step::turn(shape, x, u, lines, bytes, memory)
-}
-
-// Drain: 7.
-fn drain(
-    shape: Shape,
-    trackers: [Tracker; Geometry::MOST_TRACKERS],
-    u: Tracker,
-    lines: &mut [u32],
-    bytes: &[u8],
-    memory: &mut [u8],
-) -> Turned
-    ensures { λ r. ⌜ turned r (now (lines .exit)) (now (bytes .entry)) (now (memory .exit)) ≡ drainTurn shape trackers u (rows (now (lines .entry)) (now (bytes .entry)) (now (memory .entry))) ⌝ }
-{
-    let c = whole::drain_refusal(shape, trackers);
-    if 0 < c {
-        return outcome::refuses(c, shape, u);
-    }
-    placing::drain(shape, lines, bytes, memory);
-    Turned {
-        shape,
-        tracker: u,
-        answer: Answer::Accepted,
-    }
-}
-
-// One line of the script, on the tracker u that it names.
-fn follow(
-    shape: Shape,
-    c: Command,
-    trackers: [Tracker; Geometry::MOST_TRACKERS],
-    u: Tracker,
-    lines: &mut [u32],
-    bytes: &mut [u8],
-    memory: &mut [u8],
-) -> Turned
-    ensures { λ r. ⌜ turned r (now (lines .exit)) (now (bytes .exit)) (now (memory .exit)) ≡ lineTurn shape (asks c) trackers u (rows (now (lines .entry)) (now (bytes .entry)) (now (memory .entry))) ⌝ }
+// What a line asks for.
+fn asked(c: Command) -> Asked
+    ensures { λ r. ⌜ r ≡ askedBy (asks c) ⌝ }
 {
     match c {
-        Command::New(a, b, d) => outcome::refuses(12, shape, u),
-        Command::Read(x, g, bottom) => issue(shape, x, Access::read_of(bottom, g), trackers, u),
+        Command::New(n, l, t) => Asked::Other,
+        Command::Read(x, g, bottom) => Asked::Issue(x as u64, Access::read_of(bottom, g)),
         Command::Write(x, g, v, bottom) => {
-            issue(shape, x, Access::write_of(bottom, g, v), trackers, u)
+            Asked::Issue(x as u64, Access::write_of(bottom, g, v))
         }
-        Command::Step(x) => one_step(shape, x, trackers, u, lines, bytes, memory),
-        Command::Drain => drain(shape, trackers, u, lines, bytes, memory),
-        Command::Bad => outcome::refuses(12, shape, u),
-    }
-}
-
-// x where it is below t, else 0.
-fn below(t: u32, x: u32) -> usize
-    ensures { λ r. ⌜ r ≡ pick (ltb x t) x 0 ⌝ }
-{
-    if x < t { x as usize } else { 0 }
-}
-
-// The tracker, of t, that a line names; 0 where it names none.
-fn named(t: u32, c: Command) -> usize
-    ensures { λ r. ⌜ r ≡ named t (asks c) ⌝ }
-{
-    match c {
-        Command::New(a, b, d) => 0,
-        Command::Read(x, g, bottom) => below(t, x),
-        Command::Write(x, g, v, bottom) => below(t, x),
-        Command::Step(x) => below(t, x),
-        Command::Drain => 0,
-        Command::Bad => 0,
+        Command::Step(x) => Asked::Step(x as u64),
+        Command::Drain => Asked::Drain,
+        Command::Bad => Asked::Other,
     }
 }
 
@@ -189,19 +92,6 @@ fn goes_on(e: usize, input: &[u8], output: &[u8], written: usize, number: u64) -
     number < u64::MAX
 }
 
-// What the type says of an array's length, said in a contract.
-fn row(a: [u32; Geometry::MOST_LINES]) -> [u32; Geometry::MOST_LINES]
-    ensures { λ r. ⌜ (r ≡ a) × (length r ≡ mostLines) ⌝ }
-{
-    a
-}
-
-fn table(a: [Tracker; Geometry::MOST_TRACKERS]) -> [Tracker; Geometry::MOST_TRACKERS]
-    ensures { λ r. ⌜ (r ≡ a) × (length r ≡ mostTrackers) ⌝ }
-{
-    a
-}
-
 // The lines of a chunk, one after the other: the rows are copied out of the state once, and lent to each line.
 fn play_lines(
     state: State,
@@ -217,8 +107,8 @@ fn play_lines(
     let mut shape = state.shape;
     let ls = state.lines;
     let ts = state.trackers;
-    let mut lines = row(ls);
-    let mut trackers = table(ts);
+    let mut lines = turn::row(ls);
+    let mut trackers = turn::table(ts);
     let mut k = number;
     let mut at: usize = 0;
     let mut written: usize = 0;
@@ -228,15 +118,16 @@ fn play_lines(
         at = e + 1;
         e = line_end(input, at);
         k += 1;
-        let x = named(shape.t, c);
+        let a = asked(c);
+        let x = turn::named(shape.t, a);
         let u = trackers[x];
-        let r = follow(shape, c, trackers, u, &mut lines, bytes, memory);
+        let r = turn::take(shape, a, trackers, u, &mut lines, bytes, memory);
         let moved = r.shape;
         shape = moved;
         let v = r.tracker;
         trackers[x] = v;
-        let a = r.answer;
-        written = text::put_line(output, written, k, a);
+        let answer = r.answer;
+        written = text::put_line(output, written, k, answer);
     }
     Played {
         state: State {

@@ -1,111 +1,26 @@
--- `put_answer` meets its contract, answer by answer.
+-- `put_answer` meets its contract: refused, or the words of what was said.
 use borrow.Author.Needs.{needs}
-use mathlib.Core.Path.{refl}
-use Rattle.coding.proofs.Turns.{answer-is, answer-not}
+use native.Mathlib.Omega.{arith}
+use Rattle.coding.proofs.Turns.{answer-no, answer-is}
 use Rattle.coding.proofs.put_answer.Statement.{statement}
 use Rattle.coding.proofs.put_answer.Tie as tie
 
+number-of-requires : tie.Need-number-of-requires
+number-of-requires c κs = search needs
+
 returns : tie.Need-returns
-returns c = answer-not (c .before .before .args .words .now) (c .before .before .args .answer) (c .if1 .taken)
+returns c = let a = c .before .before .before .args in answer-no (a .words .now) (a .answer) (c .before .number-of .ensures) (omega arith)
 
-enum-told : tie.Need-enum-told
-enum-told c = search needs
-
-enum-told-2 : tie.Need-enum-told-2
-enum-told-2 c = search needs
-
-put-words-requires : tie.Need-put-words-requires
-put-words-requires c κs = search needs
-
-enum-told-3 : tie.Need-enum-told-3
-enum-told-3 c = search needs
-
-put-words-requires-2 : tie.Need-put-words-requires-2
-put-words-requires-2 c κs = search needs
-
-enum-known-answer : tie.Need-enum-known-answer
-enum-known-answer c = search needs
-
-put-words-requires-3 : tie.Need-put-words-requires-3
-put-words-requires-3 c κs = search needs
-
-enum-known-answer-2 : tie.Need-enum-known-answer-2
-enum-known-answer-2 c = search needs
-
-put-words-requires-4 : tie.Need-put-words-requires-4
-put-words-requires-4 c κs = search needs
-
-enum-known-answer-3 : tie.Need-enum-known-answer-3
-enum-known-answer-3 c = search needs
-
-put-words-requires-5 : tie.Need-put-words-requires-5
-put-words-requires-5 c κs = search needs
-
-enum-told-4 : tie.Need-enum-told-4
-enum-told-4 c = search needs
-
-returns-2 : tie.Need-returns-2
-returns-2 c = let a = c .before .before .before .before .args in answer-is (a .words .now) (c .before .before .if1 .left) (c .enum-told .given .1) refl
+put-said-requires : tie.Need-put-said-requires
+put-said-requires c κs = search needs
 
 same-length : tie.Need-same-length
 same-length c = search needs
 
-returns-3 : tie.Need-returns-3
-returns-3 c = let a = c .before .before .before .before .before .before .before .before .args in answer-is (a .words .now) (c .before .before .before .before .before .before .if1 .left) (c .before .before .before .before .enum-told2 .given .1) (c .before .before .put-words .ensures)
-
-same-length-2 : tie.Need-same-length-2
-same-length-2 c = search needs
-
-returns-4 : tie.Need-returns-4
-returns-4 c = let a = c .before .before .before .before .before .before .before .before .args in answer-is (a .words .now) (c .before .before .before .before .before .before .if1 .left) (c .before .before .before .before .enum-told3 .given .1) (c .before .before .put-words2 .ensures)
-
-same-length-3 : tie.Need-same-length-3
-same-length-3 c = search needs
-
-returns-5 : tie.Need-returns-5
-returns-5 c = let a = c .before .before .before .before .before .before .before .before .before .args in answer-is (a .words .now) (c .before .before .before .before .before .before .before .if1 .left) (c .before .before .before .before .before .answer .given .1) (c .before .before .put-words3 .ensures)
-
-same-length-4 : tie.Need-same-length-4
-same-length-4 c = search needs
-
-returns-6 : tie.Need-returns-6
-returns-6 c = let a = c .before .before .before .before .before .before .before .before .before .args in answer-is (a .words .now) (c .before .before .before .before .before .before .before .if1 .left) (c .before .before .before .before .before .answer2 .given .1) (c .before .before .put-words4 .ensures)
-
-same-length-5 : tie.Need-same-length-5
-same-length-5 c = search needs
-
-returns-7 : tie.Need-returns-7
-returns-7 c = let a = c .before .before .before .before .before .before .before .before .before .args in answer-is (a .words .now) (c .before .before .before .before .before .before .before .if1 .left) (c .before .before .before .before .before .answer3 .given .1) (c .before .before .put-words5 .ensures)
-
-returns-8 : tie.Need-returns-8
-returns-8 c = let a = c .before .before .before .before .args in answer-is (a .words .now) (c .before .before .if1 .left) (c .enum-told4 .given .1) refl
+returns-2 : tie.Need-returns-2
+returns-2 c = let at-test = c .before .before .before .before in let a = at-test .before .before .before .args in
+    answer-is (a .words .now) (a .answer) (at-test .before .number-of .ensures) (omega arith) (c .before .before .put-said .ensures)
 
 pub put-answer-spec : {M : Type 1} → statement M
 put-answer-spec =
-    tie.close
-    (tie.spec
-    returns
-    enum-told
-    enum-told-2
-    put-words-requires
-    enum-told-3
-    put-words-requires-2
-    enum-known-answer
-    put-words-requires-3
-    enum-known-answer-2
-    put-words-requires-4
-    enum-known-answer-3
-    put-words-requires-5
-    enum-told-4
-    returns-2
-    same-length
-    returns-3
-    same-length-2
-    returns-4
-    same-length-3
-    returns-5
-    same-length-4
-    returns-6
-    same-length-5
-    returns-7
-    returns-8)
+    tie.close (tie.spec number-of-requires returns put-said-requires same-length returns-2)

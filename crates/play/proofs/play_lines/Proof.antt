@@ -94,46 +94,46 @@ add-k c = let k = c .before .before .before .before .before .before .loop in
     let f : k .at ≤ lineEnd i (k .at) = lineEnd-from i (k .at) in
     omega arith
 
+asked-requires : tie.Need-asked-requires Inv-loop μ-loop
+asked-requires c κs = search needs
+
 named-requires : tie.Need-named-requires Inv-loop μ-loop
 named-requires c κs = search needs
 
 mul-u : tie.Need-mul-u Inv-loop μ-loop
-mul-u c = let k = c .before .before .before .before .before .before .before .loop in
-    let x = going-named _ (k .inv .0) _ in
-    let y : c .named .result < 8 = rw (c .named .ensures) x in
+mul-u c = let at-turn = c .before .before .before .before .before .before .before .before in
+    let y : c .named .result < 8 = rw (c .named .ensures) (going-named _ (at-turn .loop .inv .0) _) in
     omega arith
 
 array-copy-out-u : tie.Need-array-copy-out-u Inv-loop μ-loop
-array-copy-out-u c = let k = c .before .before .before .before .before .before .before .loop in
-    let x = going-named _ (k .inv .0) _ in
-    let y : c .named .result < 8 = rw (c .named .ensures) x in
+array-copy-out-u c = let at-turn = c .before .before .before .before .before .before .before .before in
+    let y : c .named .result < 8 = rw (c .named .ensures) (going-named _ (at-turn .loop .inv .0) _) in
     omega arith
 
-slice-aggregate-follow : tie.Need-slice-aggregate-follow Inv-loop μ-loop
-slice-aggregate-follow c = search needs
+slice-aggregate-take : tie.Need-slice-aggregate-take Inv-loop μ-loop
+slice-aggregate-take c = search needs
 
-follow-requires : tie.Need-follow-requires Inv-loop μ-loop
-follow-requires c κs = search needs
+take-requires : tie.Need-take-requires Inv-loop μ-loop
+take-requires c κs = search needs
 
 mul-trackers : tie.Need-mul-trackers Inv-loop μ-loop
-mul-trackers c = let k = c .before .before .before .before .before .before .before .before .before .before .before .before .before .before .before .before .before .before .before .loop in
-    let x = going-named _ (k .inv .0) _ in
-    let y : c .before .before .before .before .before .before .before .before .before .before .before .before .named .result < 8 = rw (c .before .before .before .before .before .before .before .before .before .before .before .before .named .ensures) x in
+mul-trackers c = let at-name = c .before .before .before .before .before .before .before .before .before .before .before .before in let at-turn = at-name .before .before .before .before .before .before .before .before in
+    let y : at-name .named .result < 8 = rw (at-name .named .ensures) (going-named _ (at-turn .loop .inv .0) _) in
     omega arith
 
 array-set-from-trackers : tie.Need-array-set-from-trackers Inv-loop μ-loop
-array-set-from-trackers c = let k = c .before .before .before .before .before .before .before .before .before .before .before .before .before .before .before .before .before .before .before .loop in
-    let x = going-named _ (k .inv .0) _ in
-    let y : c .before .before .before .before .before .before .before .before .before .before .before .before .named .result < 8 = rw (c .before .before .before .before .before .before .before .before .before .before .before .before .named .ensures) x in
+array-set-from-trackers c = let at-name = c .before .before .before .before .before .before .before .before .before .before .before .before in let at-turn = at-name .before .before .before .before .before .before .before .before in
+    let y : at-name .named .result < 8 = rw (at-name .named .ensures) (going-named _ (at-turn .loop .inv .0) _) in
     omega arith
 
 put-line-requires : tie.Need-put-line-requires Inv-loop μ-loop
 put-line-requires c κs = search needs
 
 loop-less : tie.Need-loop-less Inv-loop μ-loop
-loop-less c = let k = c .before .before .before .before .before .before .before .before .before .before .before .before .before .before .before .before .before .before .before .before .before .before .before .loop in
-    let i = c .before .before .before .before .before .before .before .before .before .before .before .before .before .before .before .before .before .before .before .before .before .before .before .before .before .before .before .before .before .before .before .before .before .before .args .input .now in
-    let h = sym (c .before .before .before .before .before .before .before .before .before .before .before .before .before .before .before .before .before .before .before .before .before .goes-on .ensures) ∙ c .before .before .before .before .before .before .before .before .before .before .before .before .before .before .before .before .before .before .before .before .if1 .taken in
+loop-less c = let at-test = c .before .before .before .before .before .before .before .before .before .before .before .before .before .before .before .before .before .before .before .before .before in let at-turn = at-test .before .before .before in
+    let i = at-turn .before .before .before .before .before .before .before .before .before .before .before .args .input .now in
+    let k = at-turn .loop in
+    let h = sym (at-test .before .goes-on .ensures) ∙ at-test .if1 .taken in
     let b : k .e < length i = tested-end (k .e) i (k .output) (k .written) (k .k) h in
     let m : k .k < 18446744073709551615 = tested-number (k .e) i (k .output) (k .written) (k .k) h in
     let f : k .at ≤ lineEnd i (k .at) = lineEnd-from i (k .at) in
@@ -141,11 +141,28 @@ loop-less c = let k = c .before .before .before .before .before .before .before 
 
 loop-again : tie.Need-loop-again Inv-loop μ-loop
 unfolding part
-loop-again c = let k = c .before .before .before .before .before .before .before .before .before .before .before .before .before .before .before .before .before .before .before .before .before .before .before .loop in
-    let a = c .before .before .before .before .before .before .before .before .before .before .before .before .before .before .before .before .before .before .before .before .before .before .before .before .before .before .before .before .before .before .before .before .before .before .args in
-    let i = a .input .now in
-    let on : goesOn i (under (k .shape) (k .lines) (k .trackers) (k .bytes) (k .memory) (k .k) (k .at) (k .output) (k .written)) ≡ true = sym (on-is i (under (k .shape) (k .lines) (k .trackers) (k .bytes) (k .memory) (k .k) (k .at) (k .output) (k .written)) (k .e) (k .inv .1)) ∙ sym (c .before .before .before .before .before .before .before .before .before .before .before .before .before .before .before .before .before .before .before .before .before .goes-on .ensures) ∙ c .before .before .before .before .before .before .before .before .before .before .before .before .before .before .before .before .before .before .before .before .if1 .taken in
-    (going-line i _ _ _ _ _ _ (k .at) _ _ (k .e) _ _ (c .before .before .before .before .before .before .before .before .before .before .before .follow .result) (k .inv .0) on (k .inv .1) (c .before .before .before .before .before .before .before .before .before .before .before .before .before .before .before .before .before .before .parse .ensures) (c .before .before .before .before .before .before .before .before .before .before .before .before .before .before .before .before .named .ensures) (c .before .before .before .before .before .before .before .before .before .before .before .follow .ensures) (c .before .before .put-line .ensures .0) (c .before .before .put-line .ensures .1), c .before .before .before .before .before .before .before .before .before .before .before .before .before .before .before .before .before .line-end2 .ensures, search needs, search needs, search needs, search needs, search needs)
+loop-again c = let at-text = c .before .before in
+    let at-take = at-text .before .before .before .before .before .before .before .before .before in
+    let at-name = at-take .before .before .before .before .before in
+    let at-ask = at-name .before in
+    let at-end = at-ask .before in
+    let at-parse = at-end .before in
+    let at-test = at-parse .before .before in
+    let at-turn = at-test .before .before .before in
+    let k = at-turn .loop in
+    let i = at-turn .before .before .before .before .before .before .before .before .before .before .before .args .input .now in
+    let lent = at-take .take .kept .1 .1 .1 .1 in
+    let p = under (k .shape) (k .lines) (k .trackers) (k .bytes) (k .memory) (k .k) (k .at) (k .output) (k .written) in
+    let on : goesOn i p ≡ true = sym (on-is i p (k .e) (k .inv .1)) ∙ sym (at-test .before .goes-on .ensures) ∙ at-test .if1 .taken in (
+      going-line i _ _ _ _ _ _ (k .at) _ _ (k .e) _ _ _ (at-take .take .result) (k .inv .0) on (k .inv .1) (at-parse .parse .ensures) (at-ask .asked .ensures) (at-name .named .ensures) (at-take .take .ensures)
+          (at-text .put-line .ensures .0) (at-text .put-line .ensures .1),
+      at-end .line-end2 .ensures,
+      lent .0 ∙ k .inv .2,
+      search needs,
+      lent .1 .0 ∙ k .inv .4,
+      lent .1 .1 .0 ∙ k .inv .5,
+      search needs,
+    )
 
 same-length : tie.Need-same-length Inv-loop μ-loop
 same-length c = search needs
@@ -181,11 +198,12 @@ play-lines-spec =
     add-at
     line-end-requires-2
     add-k
+    asked-requires
     named-requires
     mul-u
     array-copy-out-u
-    slice-aggregate-follow
-    follow-requires
+    slice-aggregate-take
+    take-requires
     mul-trackers
     array-set-from-trackers
     put-line-requires

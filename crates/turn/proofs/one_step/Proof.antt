@@ -2,9 +2,9 @@
 use borrow.Author.Needs.{needs}
 use native.Mathlib.Omega.{arith}
 use Rattle.outcome.proofs.Rule.{by-rule}
-use Rattle.play.proofs.Ways.{step-no, step-ok}
-use Rattle.play.proofs.one_step.Statement.{statement}
-use Rattle.play.proofs.one_step.Tie as tie
+use Rattle.turn.proofs.Ways.{step-below, step-no, step-ok}
+use Rattle.turn.proofs.one_step.Statement.{statement}
+use Rattle.turn.proofs.one_step.Tie as tie
 
 step-refusal-requires : tie.Need-step-refusal-requires
 step-refusal-requires c κs = search needs
@@ -14,6 +14,10 @@ refuses-requires c κs = search needs
 
 returns : tie.Need-returns
 returns c = by-rule (step-no _ _ _ _ _ _ (c .before .before .step-refusal .ensures) (omega arith)) (c .refuses .ensures _ _ _)
+
+cast-turn : tie.Need-cast-turn
+cast-turn c = let tested = c .before in let a = tested .before .before .before .before .args in
+    omega (arith, step-below (a .shape) (a .x) (a .trackers) (tested .step-refusal .result) (tested .step-refusal .ensures) (omega arith))
 
 turn-requires : tie.Need-turn-requires
 turn-requires c κs = search needs
@@ -37,6 +41,7 @@ one-step-spec =
     step-refusal-requires
     refuses-requires
     returns
+    cast-turn
     turn-requires
     same-length
     same-length-2

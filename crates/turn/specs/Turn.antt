@@ -1,4 +1,4 @@
--- A line of a script on the one tracker that it names: what the code works on. proofs/Follows.antt shows that in a whole state it is what `follows` says.
+-- What is asked for, on the one tracker that it names: what the code works on. proofs/Does.antt shows that in a whole state it is what `takes` says.
 use mathlib.Core.List.{List}
 use Prim.Native.Nat.{ℕ}
 use lib.Dec.{ltb}
@@ -8,22 +8,29 @@ use Rattle.laws.specs.Scan.{all}
 use Rattle.geometry.specs.declared.Shape.{Shape}
 use Rattle.tracker.specs.declared.Access.{Access}
 use Rattle.tracker.specs.declared.Tracker.{Tracker}
-use Rattle.tracker.specs.Tracker.{isIdle, readOf, writeOf, issued}
+use Rattle.tracker.specs.Tracker.{isIdle, issued}
 use Rattle.tracker.specs.Answer.{ok}
-use Rattle.script.specs.Script.{Asks, news, reads, writes, steps, drains, bad}
 use Rattle.rules.specs.State.{Rows, trackerAt}
 use Rattle.rules.specs.Step.{Turned, refuses, turnOf}
-use Rattle.rules.specs.Calls.{issueTests, stepTests, drainTests}
+use Rattle.rules.specs.Calls.{Out, refused, issueTests, stepTests, drainTests}
+use Rattle.rules.specs.Run.{Kept, does, issues, steps, drains}
 use Rattle.placing.specs.Lines.{drainedRows}
+use Rattle.turn.specs.declared.Asked.{Asked}
+use Rattle.turn.specs.declared.Asked.the-variants.{Other, Issue, Step, Drain}
 
--- the tracker, of t, that a line names; 0 where it names none
-unfoldable pub named : (t : ℕ) → Asks → ℕ
-named t (news n l k) = 0
-named t (reads x g b) = pick (ltb x t) x 0
-named t (writes x g v b) = pick (ltb x t) x 0
-named t (steps x) = pick (ltb x t) x 0
-named t drains = 0
-named t bad = 0
+-- what is asked for is the rules' call; what has another form gets 12
+abbrev pub takes : Kept → Asked → Out
+takes k Other = refused 12 (k .state) (k .bytes) (k .memory)
+takes k (Issue x a) = does k (issues x a)
+takes k (Step x) = does k (steps x)
+takes k Drain = does k drains
+
+-- the tracker, of t, that is named; 0 where none is
+unfoldable pub named : (t : ℕ) → Asked → ℕ
+named t Other = 0
+named t (Issue x a) = pick (ltb x t) x 0
+named t (Step x) = pick (ltb x t) x 0
+named t Drain = 0
 
 -- a call that is accepted
 abbrev pub accepts : Shape → Tracker → Rows → Turned
@@ -42,10 +49,8 @@ stepTurn shape x us u r = unless (refusal (stepTests shape x us)) (turnOf shape 
 unfoldable pub drainTurn : Shape → (us : List Tracker) (u : Tracker) → Rows → Turned
 drainTurn shape us u r = unless (refusal (drainTests (all (λ x. isIdle (trackerAt us x)) (shape .t)))) (accepts shape u (drainedRows shape r)) (λ c. refuses c u shape r)
 
-unfoldable pub lineTurn : Shape → Asks → (us : List Tracker) (u : Tracker) → Rows → Turned
-lineTurn shape (news a b c) us u r = refuses 12 u shape r
-lineTurn shape (reads x g bottom) us u r = issueTurn shape x (readOf bottom g) us u r
-lineTurn shape (writes x g v bottom) us u r = issueTurn shape x (writeOf bottom g v) us u r
-lineTurn shape (steps x) us u r = stepTurn shape x us u r
-lineTurn shape drains us u r = drainTurn shape us u r
-lineTurn shape bad us u r = refuses 12 u shape r
+unfoldable pub askedTurn : Shape → Asked → (us : List Tracker) (u : Tracker) → Rows → Turned
+askedTurn shape Other us u r = refuses 12 u shape r
+askedTurn shape (Issue x a) us u r = issueTurn shape x a us u r
+askedTurn shape (Step x) us u r = stepTurn shape x us u r
+askedTurn shape Drain us u r = drainTurn shape us u r

@@ -3,9 +3,9 @@ use borrow.Author.Needs.{needs}
 use mathlib.Core.Path.{refl}
 use native.Mathlib.Omega.{arith}
 use Rattle.outcome.proofs.Rule.{by-rule}
-use Rattle.play.proofs.Ways.{issue-no, issue-ok}
-use Rattle.play.proofs.issue.Statement.{statement}
-use Rattle.play.proofs.issue.Tie as tie
+use Rattle.turn.proofs.Ways.{issue-no, issue-ok}
+use Rattle.turn.proofs.issue.Statement.{statement}
+use Rattle.turn.proofs.issue.Tie as tie
 
 issue-refusal-requires : tie.Need-issue-refusal-requires
 issue-refusal-requires c κs = search needs

@@ -1,9 +1,9 @@
 -- `below` meets its contract.
 use mathlib.Core.Path.{sym}
 use native.Mathlib.Omega.{arith}
-use Rattle.play.proofs.Ways.{below-is, below-not}
-use Rattle.play.proofs.below.Statement.{statement}
-use Rattle.play.proofs.below.Tie as tie
+use Rattle.turn.proofs.Ways.{below-is, below-not}
+use Rattle.turn.proofs.below.Statement.{statement}
+use Rattle.turn.proofs.below.Tie as tie
 
 returns : tie.Need-returns
 returns c = sym (below-is (c .before .args .t) (c .before .args .x) (omega arith))

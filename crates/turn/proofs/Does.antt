@@ -1,4 +1,4 @@
--- In a whole state a line is its turn on the one tracker that it names, and leaves a whole state: the laws of rules, case by case.
+-- In a whole state what is asked for is its turn on the one tracker that it names, and leaves a whole state: the laws of rules, case by case.
 use mathlib.Core.Path.{_≡_, refl, _∙_}
 use mathlib.Core.Bool.{true}
 use mathlib.Core.List.{List}
@@ -13,9 +13,9 @@ use Rattle.laws.specs.Refusal.{refusal, unless}
 use Rattle.laws.proofs.Refusal.{refused-or-not, unless-0, unless-no}
 use Rattle.laws.proofs.Choice.{true-or-false}
 use Rattle.laws.proofs.Splice.{lt-or-ge}
+use Rattle.geometry.specs.TagMemory.{mostTrackers}
 use Rattle.tracker.specs.declared.Access.{Access}
-use Rattle.tracker.specs.Tracker.{readOf, writeOf, issued}
-use Rattle.script.specs.Script.{Asks, news, reads, writes, steps, drains, bad}
+use Rattle.tracker.specs.Tracker.{issued}
 use Rattle.rules.specs.State.{State, Rows, trackerAt, lengthsRight}
 use Rattle.rules.specs.Whole.{whole}
 use Rattle.rules.specs.Place.{drained}
@@ -23,9 +23,11 @@ use Rattle.rules.specs.Step.{Turned, refuses, turnOf}
 use Rattle.rules.specs.Calls.{refused, issueTests, issue, stepTests, step, drain, stepped, allIdle}
 use Rattle.rules.specs.Run.{does}
 use Rattle.rules.proofs.Calls.{Sound, rows-fit, refused-sound, step-is, step-refused, step-free, step-kept, issue-refused, issue-accepted, issue-free, issue-kept, drains as drains-all, drain-is, drain-busy, drain-kept}
+use Rattle.rules.proofs.Whole.{whole-facts, t-least, t-most}
 use Rattle.placing.specs.Lines.{rows, drainedRows}
-use Rattle.play.specs.Play.{follows}
-use Rattle.play.specs.Turn.{named, accepts, issueTurn, stepTurn, drainTurn, lineTurn}
+use Rattle.turn.specs.declared.Asked.{Asked}
+use Rattle.turn.specs.declared.Asked.the-variants.{Other, Issue, Step, Drain}
+use Rattle.turn.specs.Turn.{takes, named, accepts, issueTurn, stepTurn, drainTurn, askedTurn}
 
 below-lt : (t x : ℕ) → 0 < t → pick (ltb x t) x 0 < t
 below-lt t x h = by (lt-or-ge x t)
@@ -34,15 +36,22 @@ below-lt t x h = by (lt-or-ge x t)
     by (inl q) = rw (lt-ltb _ _ q) q
     by (inr q) = rw (le-ltb _ _ q) h
 
--- the tracker that a line names is one of t
-pub named-lt : (t : ℕ) (a : Asks) → 0 < t → named t a < t
+-- the tracker that is named is one of t
+named-lt : (t : ℕ) (a : Asked) → 0 < t → named t a < t
 unfolding named
-named-lt t (news n l k) h = h
-named-lt t (reads x g b) h = below-lt t x h
-named-lt t (writes x g v b) h = below-lt t x h
-named-lt t (steps x) h = below-lt t x h
-named-lt t drains h = h
-named-lt t bad h = h
+named-lt t Other h = h
+named-lt t (Issue x a) h = below-lt t x h
+named-lt t (Step x) h = below-lt t x h
+named-lt t Drain h = h
+
+-- and in the table
+pub named-most : (s : State) → whole s ≡ true → (a : Asked) → named (s .shape .t) a < mostTrackers
+named-most s w a =
+    let f = whole-facts s w .limits-ok in
+    let lo = t-least (s .shape) f in
+    let hi = t-most (s .shape) f in
+    let b = named-lt (s .shape .t) a (omega arith) in
+    omega arith
 
 module _ (s : State) (bytes memory : List ℕ) (w : whole s ≡ true) (len : lengthsRight (s .shape) bytes memory ≡ true) where
   abbrev lent : Rows
@@ -86,23 +95,19 @@ module _ (s : State) (bytes memory : List ℕ) (w : whole s ≡ true) (len : len
   unfolding drainTurn allIdle refusal unless
   drain-turn = ⊎-elim (λ e. drain-is s bytes memory w len e ∙ rw (e, drained-fit, drains-all s bytes memory w len e (s .shape .l) (omega arith) .bytes-is, set-getD) refl) (λ e. drain-busy s bytes memory w len e ∙ stays 7 0 ∙ rw e refl) (true-or-false (allIdle s))
 
-  -- a line is its turn on the tracker that it names
-  pub follows-turn : (a : Asks)
-      → follows (record { state = s; bytes = bytes; memory = memory }) a ≡ stepped s (named (s .shape .t) a) (lineTurn (s .shape) a (s .trackers) (trackerAt (s .trackers) (named (s .shape .t) a)) lent)
-  unfolding does lineTurn named
-  follows-turn (news n l t) = stays 12 0
-  follows-turn (reads x g b) = issue-turn x (readOf b g)
-  follows-turn (writes x g v b) = issue-turn x (writeOf b g v)
-  follows-turn (steps x) = step-turn x
-  follows-turn drains = drain-turn
-  follows-turn bad = stays 12 0
+  -- what is asked for is its turn on the tracker that it names
+  pub takes-turn : (a : Asked)
+      → takes (record { state = s; bytes = bytes; memory = memory }) a ≡ stepped s (named (s .shape .t) a) (askedTurn (s .shape) a (s .trackers) (trackerAt (s .trackers) (named (s .shape .t) a)) lent)
+  unfolding does askedTurn named
+  takes-turn Other = stays 12 0
+  takes-turn (Issue x a) = issue-turn x a
+  takes-turn (Step x) = step-turn x
+  takes-turn Drain = drain-turn
 
   -- and leaves a whole state
-  pub follows-kept : (a : Asks) → Sound (s .shape) (follows (record { state = s; bytes = bytes; memory = memory }) a)
+  pub takes-kept : (a : Asked) → Sound (s .shape) (takes (record { state = s; bytes = bytes; memory = memory }) a)
   unfolding does
-  follows-kept (news n l t) = refused-sound s bytes memory w len 12
-  follows-kept (reads x g b) = issue-kept s bytes memory w len x (readOf b g)
-  follows-kept (writes x g v b) = issue-kept s bytes memory w len x (writeOf b g v)
-  follows-kept (steps x) = step-kept s bytes memory w len x
-  follows-kept drains = drain-kept s bytes memory w len
-  follows-kept bad = refused-sound s bytes memory w len 12
+  takes-kept Other = refused-sound s bytes memory w len 12
+  takes-kept (Issue x a) = issue-kept s bytes memory w len x a
+  takes-kept (Step x) = step-kept s bytes memory w len x
+  takes-kept Drain = drain-kept s bytes memory w len

@@ -3,11 +3,11 @@ use borrow.Author.Needs.{needs}
 use mathlib.Core.Path.{ap}
 use native.Mathlib.Omega.{arith}
 use Rattle.rules.specs.State.{Rows}
-use Rattle.play.specs.Turn.{accepts}
+use Rattle.turn.specs.Turn.{accepts}
 use Rattle.outcome.proofs.Rule.{by-rule}
-use Rattle.play.proofs.Ways.{drain-no, drain-ok}
-use Rattle.play.proofs.drain.Statement.{statement}
-use Rattle.play.proofs.drain.Tie as tie
+use Rattle.turn.proofs.Ways.{drain-no, drain-ok}
+use Rattle.turn.proofs.drain.Statement.{statement}
+use Rattle.turn.proofs.drain.Tie as tie
 
 drain-refusal-requires : tie.Need-drain-refusal-requires
 drain-refusal-requires c κs = search needs

@@ -1,0 +1,4 @@
+pub mod Ways
+pub mod Going
+pub mod Runs
+pub mod One

@@ -1,0 +1,3 @@
+pub mod Does
+pub mod Ways
+pub mod One
