@@ -10,7 +10,7 @@ mod plain;
 use plain::{Answer, Cache, Phase, FREE, NOBODY};
 use std::time::Instant;
 
-const STATE: usize = 116;
+const STATE: usize = 132;
 const LEAVES: u32 = 800;
 const TRACKERS: u32 = 8;
 const CALLS: usize = 1_000_000;
@@ -97,8 +97,8 @@ fn by_plain(calls: &[Call], l: u32, tested: bool) -> (f64, u64) {
         if tested && !std::hint::black_box(whole(&cache)) {
             break;
         }
-        if let Answer::Read(_, k) | Answer::Done(k) | Answer::Same(k) = does(&mut cache, call) {
-            said += k as u64;
+        if let Answer::Read(_, sums) | Answer::Done(sums) | Answer::Same(sums) = does(&mut cache, call) {
+            said += sums.turns as u64;
         }
     }
     (start.elapsed().as_secs_f64(), said)

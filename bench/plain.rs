@@ -33,24 +33,34 @@ pub enum Phase {
     Clear,
 }
 
+/// What an ending carries: its turns, blocks fetched and blocks written back.
+#[derive(Clone, Copy)]
+pub struct Sums {
+    pub turns: u16,
+    pub fetched: u8,
+    pub back: u8,
+}
+
+const NONE: Sums = Sums { turns: 0, fetched: 0, back: 0 };
+
 #[derive(Clone, Copy)]
 pub struct Tracker {
     pub phase: Phase,
     pub write: bool,
-    pub turns: u16,
     pub group: u32,
     pub value: u32,
+    pub sums: Sums,
 }
 
-const REST: Tracker = Tracker { phase: Phase::Idle, write: false, turns: 0, group: 0, value: 0 };
+const REST: Tracker = Tracker { phase: Phase::Idle, write: false, group: 0, value: 0, sums: NONE };
 
 pub enum Answer {
     Ok,
     Wait,
     Moved,
-    Read(u32, u16),
-    Done(u16),
-    Same(u16),
+    Read(u32, Sums),
+    Done(Sums),
+    Same(Sums),
     No(u8),
 }
 
@@ -93,7 +103,7 @@ impl Cache {
         self.memory[at..at + BLOCK].copy_from_slice(&self.bytes[BLOCK * i..][..BLOCK]);
     }
 
-    fn place(&mut self, block: u32) -> usize {
+    fn place(&mut self, x: usize, block: u32) -> usize {
         let i = match self.find(FREE) {
             Some(i) => i,
             None => {
@@ -106,6 +116,8 @@ impl Cache {
                 }
                 if self.lines[i].changed {
                     self.write_back(i);
+                    let sums = &mut self.trackers[x].sums;
+                    sums.back = sums.back.saturating_add(1);
                 }
                 self.hand = if i + 1 == self.lines.len() { 0 } else { i + 1 };
                 i
@@ -115,13 +127,15 @@ impl Cache {
         i
     }
 
-    fn bring_in(&mut self, block: u32) -> usize {
+    fn bring_in(&mut self, x: usize, block: u32) -> usize {
         if let Some(i) = self.find(block) {
             return i;
         }
-        let i = self.place(block);
+        let i = self.place(x, block);
         let at = BLOCK * block as usize;
         self.bytes[BLOCK * i..][..BLOCK].copy_from_slice(&self.memory[at..at + BLOCK]);
+        let sums = &mut self.trackers[x].sums;
+        sums.fetched = sums.fetched.saturating_add(1);
         i
     }
 
@@ -145,9 +159,9 @@ impl Cache {
         self.trackers[x as usize] = Tracker {
             phase: if bottom_up { Phase::Probe } else { Phase::Map },
             write: write.is_some(),
-            turns: 0,
             group,
             value: write.unwrap_or(0),
+            sums: NONE,
         };
         Answer::Ok
     }
@@ -160,7 +174,7 @@ impl Cache {
         if tracker.phase == Phase::Idle {
             return Answer::No(8);
         }
-        tracker.turns = tracker.turns.saturating_add(1);
+        tracker.sums.turns = tracker.sums.turns.saturating_add(1);
         let tracker = *tracker;
         match tracker.phase {
             Phase::Probe => self.probe(x, tracker),
@@ -176,12 +190,11 @@ impl Cache {
         Answer::Moved
     }
 
-    fn end(&mut self, x: usize, answer: Answer) -> Answer {
-        self.trackers[x] = REST;
-        answer
+    fn end(&mut self, x: usize, answer: impl FnOnce(Sums) -> Answer) -> Answer {
+        answer(std::mem::replace(&mut self.trackers[x], REST).sums)
     }
 
-    fn let_go(&mut self, x: usize, map: usize, answer: Answer) -> Answer {
+    fn let_go(&mut self, x: usize, map: usize, answer: impl FnOnce(Sums) -> Answer) -> Answer {
         self.lines[map].holder = NOBODY;
         self.end(x, answer)
     }
@@ -190,10 +203,10 @@ impl Cache {
         if let Some(i) = self.find(tracker.leaf()) {
             let old = group_in(self.line(i), tracker.group);
             if !tracker.write {
-                return self.end(x, Answer::Read(old, tracker.turns));
+                return self.end(x, |sums| Answer::Read(old, sums));
             }
             if old == tracker.value {
-                return self.end(x, Answer::Same(tracker.turns));
+                return self.end(x, Answer::Same);
             }
         }
         self.on(x, Phase::Map)
@@ -209,16 +222,16 @@ impl Cache {
     }
 
     fn map(&mut self, x: usize, tracker: Tracker) -> Answer {
-        let i = self.bring_in(self.map_block(tracker));
+        let i = self.bring_in(x, self.map_block(tracker));
         if self.lines[i].holder != NOBODY {
             return Answer::Wait;
         }
         if !bit_in(self.line(i), tracker.leaf()) {
             if !tracker.write {
-                return self.end(x, Answer::Read(0, tracker.turns));
+                return self.end(x, |sums| Answer::Read(0, sums));
             }
             if tracker.value == 0 {
-                return self.end(x, Answer::Same(tracker.turns));
+                return self.end(x, Answer::Same);
             }
         }
         self.lines[i].holder = x as u8;
@@ -226,21 +239,21 @@ impl Cache {
     }
 
     fn leaf_read(&mut self, x: usize, tracker: Tracker) -> Answer {
-        let i = self.bring_in(tracker.leaf());
+        let i = self.bring_in(x, tracker.leaf());
         let value = group_in(self.line(i), tracker.group);
         let map = self.held_line(tracker);
-        self.let_go(x, map, Answer::Read(value, tracker.turns))
+        self.let_go(x, map, |sums| Answer::Read(value, sums))
     }
 
     fn leaf_write(&mut self, x: usize, tracker: Tracker) -> Answer {
         let map = self.held_line(tracker);
         if !bit_in(self.line(map), tracker.leaf()) {
             if tracker.value == 0 {
-                return self.let_go(x, map, Answer::Same(tracker.turns));
+                return self.let_go(x, map, Answer::Same);
             }
             let i = match self.find(tracker.leaf()) {
                 Some(i) => i,
-                None => self.place(tracker.leaf()),
+                None => self.place(x, tracker.leaf()),
             };
             let leaf = self.line_mut(i);
             *leaf = [0; BLOCK];
@@ -248,10 +261,10 @@ impl Cache {
             self.lines[i].changed = true;
             return self.on(x, Phase::Set);
         }
-        let i = self.bring_in(tracker.leaf());
+        let i = self.bring_in(x, tracker.leaf());
         let leaf = self.line_mut(i);
         if group_in(leaf, tracker.group) == tracker.value {
-            return self.let_go(x, map, Answer::Same(tracker.turns));
+            return self.let_go(x, map, Answer::Same);
         }
         put_group(leaf, tracker.group, tracker.value);
         if *leaf == [0; BLOCK] {
@@ -259,7 +272,7 @@ impl Cache {
             return self.on(x, Phase::Clear);
         }
         self.lines[i].changed = true;
-        self.let_go(x, map, Answer::Done(tracker.turns))
+        self.let_go(x, map, Answer::Done)
     }
 
     fn finish(&mut self, x: usize, tracker: Tracker) -> Answer {
@@ -272,7 +285,7 @@ impl Cache {
             *byte &= !(1 << (k % 8));
         }
         self.lines[map].changed = true;
-        self.let_go(x, map, Answer::Done(tracker.turns))
+        self.let_go(x, map, Answer::Done)
     }
 
     fn drain(&mut self) -> Answer {
@@ -435,20 +448,20 @@ impl Replay {
             Answer::Ok => self.output.extend_from_slice(b" ok"),
             Answer::Wait => self.output.extend_from_slice(b" wait"),
             Answer::Moved => self.output.extend_from_slice(b" moved"),
-            Answer::Read(v, turns) => {
+            Answer::Read(v, sums) => {
                 self.output.extend_from_slice(b" read ");
                 for digit in (0..8).rev() {
                     self.output.push(b"0123456789abcdef"[(v >> (4 * digit) & 15) as usize]);
                 }
-                self.turns(turns);
+                self.sums(sums);
             }
-            Answer::Done(turns) => {
+            Answer::Done(sums) => {
                 self.output.extend_from_slice(b" done");
-                self.turns(turns);
+                self.sums(sums);
             }
-            Answer::Same(turns) => {
+            Answer::Same(sums) => {
                 self.output.extend_from_slice(b" same");
-                self.turns(turns);
+                self.sums(sums);
             }
             Answer::No(refusal) => {
                 self.output.extend_from_slice(b" no ");
@@ -458,9 +471,13 @@ impl Replay {
         self.output.push(b'\n');
     }
 
-    fn turns(&mut self, turns: u16) {
+    fn sums(&mut self, sums: Sums) {
         self.output.extend_from_slice(b" turns ");
-        self.number(turns as u64);
+        self.number(sums.turns as u64);
+        self.output.extend_from_slice(b" in ");
+        self.number(sums.fetched as u64);
+        self.output.extend_from_slice(b" out ");
+        self.number(sums.back as u64);
     }
 
     fn number(&mut self, mut number: u64) {

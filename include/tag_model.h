@@ -45,15 +45,16 @@ extern "C" {
  * number of the tracker that holds the line's block, or 0, and the rest is the block, leaf k
  * as k and map block m as n + m; then of each of 8 trackers TAG_TRACKER_WORDS words: its
  * phase (0 idle, 1 Probe, 2 Map, 3 Leaf, 4 Finish to set, 5 Finish to clear), whether it
- * writes, whether it is bottom-up (0 or 1), its group, its value, its turns. The line bytes
- * are 64 L, the memory is that of n leaves. Keep all three between calls as they came back.
- * A state that a caller changed is tested: it is either whole, or refused with TAG_BROKEN.
+ * writes, whether it is bottom-up (0 or 1), its group, its value, its turns, the blocks
+ * fetched for it and those written back (0 to 255, each stays at 255 once there). The line
+ * bytes are 64 L, the memory is that of n leaves. Keep all three between calls as they came
+ * back. A state that a caller changed is tested: it is either whole, or refused with TAG_BROKEN.
  *
  * A device is TAG_DEVICE_WORDS words: n, T (1 to 8), L (T + 1 to 64).
  *
  * A wrong number of words in device, state or answer is TAG_LENGTH, before all else. */
-#define TAG_STATE_WORDS 116
-#define TAG_TRACKER_WORDS 6
+#define TAG_STATE_WORDS 132
+#define TAG_TRACKER_WORDS 8
 #define TAG_DEVICE_WORDS 3
 #define TAG_ANSWER_WORDS 6
 
@@ -75,7 +76,8 @@ uint64_t tag_issue(uint64_t *state, size_t state_words, const uint8_t *bytes,
                    uint64_t x, uint64_t write, uint64_t bottom, uint64_t g, uint32_t v);
 
 /* One step of tracker x. Gives 0, and the answer: what was said, the value that was read,
- * the turns, and three words that are 0. Refused 4, 2, 5, 8. */
+ * the turns, the blocks fetched and written back, and a word that is 0; but for an
+ * ending the transfers are 0. Refused 4, 2, 5, 8. */
 #define TAG_WAIT 1
 #define TAG_MOVED 2
 #define TAG_READ 3
@@ -85,7 +87,8 @@ uint64_t tag_step(uint64_t *state, size_t state_words, uint8_t *bytes, size_t by
                   uint8_t *memory, size_t memory_length, uint64_t x, uint64_t *answer,
                   size_t answer_words);
 
-/* Writes the changed lines to memory and marks them clean. Gives 0. Refused 4, 2, 7. */
+/* Writes the changed lines to memory and marks them clean. Gives their number, 0 to 64.
+ * Refused 4, 2, 7. */
 uint64_t tag_drain(uint64_t *state, size_t state_words, const uint8_t *bytes,
                    size_t bytes_length, uint8_t *memory, size_t memory_length);
 
@@ -93,11 +96,12 @@ uint64_t tag_drain(uint64_t *state, size_t state_words, const uint8_t *bytes,
  * words: what it is, x, write, bottom, g, v, as tag_issue takes them; a step needs x alone, a
  * drain none, and their other words are not read. Each has TAG_ANSWER_WORDS words of
  * answers, in order: for a step those of tag_step; for an accepted issue or drain the first
- * is TAG_ACCEPTED; for a refused call the first is the number that the call itself would
- * give, and the call changes nothing; the rest are 0. A call of another number, and an issue
- * whose v has more than 32 bits, are refused with TAG_FORM. Gives 0, whatever its calls are
- * given. Refused 4, 2, and then no call is played: 2 too, before all else, where the words of
- * calls are no number of calls, or those of answers are not of as many. */
+ * is TAG_ACCEPTED, and the fifth is what a drain gives; for a refused call the first is the
+ * number that the call itself would give, and the call changes nothing; the rest are 0. A
+ * call of another number, and an issue whose v has more than 32 bits, are refused with
+ * TAG_FORM. Gives 0, whatever its calls are given. Refused 4, 2, and then no call is played:
+ * 2 too, before all else, where the words of calls are no number of calls, or those of
+ * answers are not of as many. */
 #define TAG_CALL_WORDS 6
 #define TAG_ISSUE 1
 #define TAG_STEP 2

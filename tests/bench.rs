@@ -21,9 +21,13 @@ const IN_MEMORY: u64 = 1 << 40;
 /// Up to so many leaves all of the memory is compared after every call.
 const ALL: u64 = 1_030;
 
-/// The number that a call gives.
+/// The number that a call gives: a refusal, a drain's write-backs, or 0.
 fn number(said: Result<Answer, u64>) -> u64 {
-    said.map_or_else(|no| REFUSED + no, |_| 0)
+    match said {
+        Err(no) => REFUSED + no,
+        Ok(Answer::Drained(back)) => back as u64,
+        Ok(_) => 0,
+    }
 }
 
 /// The lengths that a call lends: words of the state, line bytes, memory, and the words of the

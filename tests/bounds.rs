@@ -1,4 +1,5 @@
-//! The 32 runs that reach the four bounds of demand 3, for every T from 1 to 8.
+//! The 32 runs that reach the four bounds of demand 3, for every T from 1 to 8, and the runs
+//! that reach the bounds of an access's transfers (02, E4).
 //!
 //! `bounds [FOLDER]` writes them (default `runs`) and has the model play each: it must be
 //! a circle run (turns go round 0, 1, .., T - 1, idle trackers are passed over) in which
@@ -27,10 +28,15 @@
 //! must also miss at Probe: T more leaves are set, which with L = T + 1 lines (one of them
 //! the held map block's) drops the read's leaf from the lines. A write gets to Finish by
 //! setting the bit of a leaf that is not in a line.
+//!
+//! Transfers. One tracker has two lines, and leaves 0 and 512 lie under two map blocks. A
+//! write that sets a bit leaves both lines changed, its map block's and its leaf's. So an
+//! access under the other map block writes one back and fetches its map block, then writes
+//! the other back and fetches its leaf: 4. A leaf that is created is not fetched: 3.
 
 mod model;
 
-use model::{Answer, Replay};
+use model::{Answer, Replay, Transfers};
 
 #[derive(Clone, Copy)]
 struct Kind {
@@ -119,15 +125,38 @@ fn script(kind: Kind, t: u64) -> Vec<String> {
     run.lines
 }
 
+/// What each run of transfers has last, and how many blocks that fetches and writes back.
+const TRANSFERS: [(&str, Option<&str>, u8, u8); 6] = [
+    ("3-set", None, 1, 2),
+    ("4-read", Some("r 0 0 t"), 2, 2),
+    ("4-bottom-read", Some("r 0 0 b"), 2, 2),
+    ("4-same", Some("w 0 0 0000000a t"), 2, 2),
+    ("4-done", Some("w 0 1 0000000b t"), 2, 2),
+    ("4-cleared", Some("w 0 0 00000000 t"), 2, 2),
+];
+
+/// Both leaves are set, leaf 512 last; then that access.
+fn transfers(access: Option<&str>) -> Vec<String> {
+    let mut run = Run { t: 1, place: 0, lines: Vec::new(), replay: Replay::new() };
+    run.say("n 513 2 1".to_string());
+    let set = [0, 512].map(|k| setting(0, k, "t"));
+    for line in set.into_iter().chain(access.map(str::to_string)) {
+        run.say(line);
+        while run.turn() {}
+    }
+    run.say("d".to_string());
+    run.lines
+}
+
 /// The next busy tracker at or after the place, round the circle.
 fn next(replay: &Replay, t: u64, place: u64) -> Option<u64> {
     let trackers = &replay.machine.as_ref().unwrap().trackers;
     (0..t).map(|i| (place + i) % t).find(|&x| trackers[x as usize].busy())
 }
 
-/// Played by the model: a circle run from its first line, nothing refused, and tracker 0's
-/// last ending has these turns.
-fn verify(name: &str, lines: &[String], t: u64, bound: u64) {
+/// Played by the model: a circle run from its first line, nothing refused. The turns and the
+/// transfers of tracker 0's last ending.
+fn verify(name: &str, lines: &[String], t: u64) -> (u64, Transfers) {
     let (mut replay, mut place, mut last) = (Replay::new(), 0, None);
     for line in lines {
         let stepped = line.strip_prefix("s ").map(|x| x.parse::<u64>().unwrap());
@@ -137,15 +166,23 @@ fn verify(name: &str, lines: &[String], t: u64, bound: u64) {
         }
         match replay.line(line.as_bytes()) {
             Answer::No(refusal) => panic!("{name}: {line} is refused {refusal}"),
-            Answer::Read(_, turns) | Answer::Done(turns) | Answer::Same(turns)
+            Answer::Read(_, turns, sums) | Answer::Done(turns, sums) | Answer::Same(turns, sums)
                 if stepped == Some(0) =>
             {
-                last = Some(turns as u64)
+                last = Some((turns as u64, sums))
             }
             _ => {}
         }
     }
-    assert_eq!(last, Some(bound), "{name}: turns of tracker 0's last access");
+    last.expect("tracker 0's access ends")
+}
+
+fn written(folder: &str, name: &str, lines: &[String]) {
+    let path = format!("{folder}/{name}");
+    if let Err(error) = std::fs::write(&path, lines.join("\n") + "\n") {
+        println!("bounds: {path}: {error}");
+        std::process::exit(2);
+    }
 }
 
 fn main() {
@@ -154,13 +191,17 @@ fn main() {
         for t in 1..=8 {
             let name = format!("bound-{}-{t}.script", kind.name);
             let lines = script(kind, t);
-            verify(&name, &lines, t, kind.bound(t));
-            let path = format!("{folder}/{name}");
-            if let Err(error) = std::fs::write(&path, lines.join("\n") + "\n") {
-                println!("bounds: {path}: {error}");
-                std::process::exit(2);
-            }
+            let (turns, _) = verify(&name, &lines, t);
+            assert_eq!(turns, kind.bound(t), "{name}: turns of tracker 0's last access");
+            written(&folder, &name, &lines);
         }
     }
-    println!("bounds: 32 scripts in {folder}, each reaches its bound");
+    for (what, access, fetched, back) in TRANSFERS {
+        let name = format!("transfers-{what}.script");
+        let lines = transfers(access);
+        let (_, sums) = verify(&name, &lines, 1);
+        assert_eq!(sums, Transfers { fetched, back }, "{name}: transfers of the last access");
+        written(&folder, &name, &lines);
+    }
+    println!("bounds: 32 scripts in {folder}, each reaches its bound, and {} that reach the bounds of transfers", TRANSFERS.len());
 }

@@ -31,7 +31,7 @@ def lines(data):
 
 
 def parse(line):
-    """None where it is no line of replay; ('plain',) or ('ending', what it is the same by, count, what follows)."""
+    """None where it is no line of replay; ('plain',) or ('ending', what it is the same by, count, what follows, the transfers if it tells them)."""
     if len(line) >= WINDOW:
         return None
     m = LINE.fullmatch(line)
@@ -43,7 +43,7 @@ def parse(line):
             return None
     if kind is None:
         return ('plain',)
-    return ('ending', (number, kind), int(turns), rest or b'')
+    return ('ending', (number, kind), int(turns), rest or b'', (int(fetched), int(written)) if rest else None)
 
 
 def count(record, replay, name, other):
@@ -51,6 +51,7 @@ def count(record, replay, name, other):
     a, b = lines(record), lines(replay)
     out = []
     endings = drifted = farthest = place = total = changed = 0
+    blocks = [[0, 0], [0, 0]]
     for k in range(max(len(a), len(b))):
         both = k < len(a) and k < len(b)
         parsed = []
@@ -73,10 +74,17 @@ def count(record, replay, name, other):
                     farthest, place = gap, k + 1
             if p[3] != q[3]:
                 changed += 1
+            if p[4] and q[4] and p[4] != q[4]:
+                out.append(b'%d in %d out %d now %d %d' % ((k + 1,) + p[4] + q[4]))
+            for side, told in zip(blocks, (p[4], q[4])):
+                if told:
+                    side[0] += told[0]
+                    side[1] += told[1]
         elif a[k] != b[k] or len(a[k]) >= WINDOW:
             changed += 1
     far = b'farthest %d line %d' % (farthest, place) if farthest else b'farthest 0'
     out += [b'endings %d' % endings, b'drifted %d' % drifted, far, b'total %d' % total, b'changed %d' % changed]
+    out += [b'%s %d now %d' % (word, blocks[0][k], blocks[1][k]) for k, word in enumerate((b'in', b'out'))]
     return b''.join(l + b'\n' for l in out)
 
 
@@ -162,7 +170,8 @@ def altered(rng, record, share, damage):
         elif way == 'value':
             line = re.sub(rb'read [0-9a-f]{8}', b'read %08x' % rng.getrandbits(32), line)
         elif way == 'tail':
-            line = re.sub(rb' in .*', b'', line) if b' in ' in line else line + b' in %d out %d' % (rng.randint(0, 4), rng.randint(0, 4))
+            told = b' in %d out %d' % (rng.randint(0, 4), rng.randint(0, 4))
+            line = re.sub(rb' in .*', rng.choice((b'', told, told)), line) if b' in ' in line else line + told
         elif way == 'number':
             line = re.sub(rb'^[0-9]+', b'%d' % rng.randint(0, 10 ** 9), line)
         elif way == 'kind':
@@ -190,8 +199,9 @@ def text(ls, last=True):
     return b'\n'.join(ls) + (b'\n' if last and ls else b'')
 
 
+# lines like Case R's, and one ending of before 02's E4, without transfers
 CASE = text([
-    b'1 ok', b'2 ok', b'3 ok', b'4 moved', b'5 wait', b'6 moved', b'7 done turns 3', b'8 moved', b'9 moved', b'10 done turns 4', b'11 ok',
+    b'1 ok', b'2 ok', b'3 no 13', b'4 moved', b'5 wait', b'6 moved', b'7 done turns 3 in 1 out 0', b'8 moved', b'9 moved', b'10 done turns 4 in 2 out 1', b'11 ok',
     b'12 moved', b'13 read 00000000 turns 2', b'14 ok'])
 
 # each line beside each other line, and beside itself
@@ -221,6 +231,9 @@ def main():
             t.pair(f'Case R, line 7 with {turns} turns', CASE, CASE.replace(b'done turns 3', b'done turns %d' % turns))
             t.pair(f'Case R, lines 7 and 13 with {turns} turns', CASE, re.sub(rb'turns [23]', b'turns %d' % turns, CASE))
         t.pair('Case R, farthest twice', CASE, CASE.replace(b'turns 3', b'turns 5').replace(b'turns 4', b'turns 2'))
+        for told in (b'', b' in 0 out 0', b' in 1 out 1', b' in 2 out 0', b' in 255 out 255', b' in 65535 out 65535', b' in 65536 out 0'):
+            t.pair(f'line 7 with the transfers{told.decode()}', CASE, CASE.replace(b' in 1 out 0', told))
+            t.pair(f'every line with the transfers{told.decode()}', CASE, re.sub(rb'(turns [0-9]+)( in .*)?', rb'\1' + told, CASE))
         t.pair('Case R, a value changed', CASE, CASE.replace(b'read 00000000', b'read 0000000a'))
         t.pair('Case R, a value and a count changed', CASE, CASE.replace(b'read 00000000 turns 2', b'read 0000000a turns 3'))
         for k in range(15):

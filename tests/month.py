@@ -106,9 +106,19 @@ class Folder:
             f.write('\n'.join(lines))
 
     def rows(self, month):
-        """The month's rows of the table: run -> drifted, farthest, total, changed."""
+        """The month's rows of the table: run -> drifted, farthest, total, changed, and the transfers where it has them."""
         with open(self.file('drift.tsv')) as f:
             return {r[1]: r[3:] for r in (l.rstrip('\n').split('\t') for l in f) if r[0] == month}
+
+    def transfer(self, name, by):
+        """Alters the transfers of the record's endings: by[k] is added to the blocks fetched and the blocks written back of its k-th ending."""
+        with open(self.file(name + '.record')) as f:
+            lines = f.read().split('\n')
+        endings = [k for k, l in enumerate(lines) if ' turns ' in l]
+        for k, (fetched, back) in by.items():
+            lines[endings[k]] = re.sub(r'in (\d+) out (\d+)', lambda m: f'in {int(m[1]) + fetched} out {int(m[2]) + back}', lines[endings[k]])
+        with open(self.file(name + '.record'), 'w') as f:
+            f.write('\n'.join(lines))
 
     def picture(self):
         return Picture(self.file('drift.svg'))
@@ -131,7 +141,7 @@ def played(folder):
     folder.month('--check', status=1)
     folder.month('2027-02')
     folder.month('2027-02', status=2)
-    check('February: two that are as far, the first line has the sign', [folder.rows('2027-02')[n] for n in ('map-wait', 'leaf-done')],
+    check('February: two that are as far, the first line has the sign', [folder.rows('2027-02')[n][:4] for n in ('map-wait', 'leaf-done')],
           [['2', '+1', '2', '0'], ['2', '-1', '2', '0']])
     folder.add('two-maps')
     folder.alter('bound-top-write-8', {-1: 15, 0: -2})
@@ -139,7 +149,7 @@ def played(folder):
     folder.alter('map-wait', {2: -150})
     folder.alter('refused', {}, changed=2)
     folder.month('2027-05')
-    check('May: all runs', folder.rows('2027-05')['all'], ['7', '-150', '171', '2'])
+    check('May: all runs', folder.rows('2027-05')['all'][:4], ['7', '-150', '171', '2'])
     folder.alter('two-maps', {1: -9}, changed=1)
     folder.alter('leaf-done', {2: -60000}, changed=1)
     folder.month('2027-06')
@@ -189,6 +199,38 @@ def drawn(folder):
     check('no row: no grid', (folder.picture().grid, '0 runs, 0 months measured. Farthest of the year: 0 turns.' in folder.picture().said), ({}, True))
 
 
+def transferred(folder):
+    """The transfers' columns: each run's sums, their differences to the record, and a table that begins with a month of before."""
+    old = '2027-01\tcase-r\t3\t0\t0\t0\t0'
+    with open(folder.file('drift.tsv'), 'w') as f:
+        f.write('month\trun\tendings\tdrifted\tfarthest\ttotal\tchanged\n' + old + '\n')
+    for name in ('case-r', 'two-maps'):
+        folder.add(name)
+    sums = {}
+    for name in ('case-r', 'two-maps'):
+        with open(folder.file(name + '.record')) as f:
+            told = [(int(m[1]), int(m[2])) for m in re.finditer(r' in (\d+) out (\d+)$', f.read(), re.M)]
+        sums[name] = [sum(side) for side in zip(*told)]
+    check('the records tell transfers', sums['case-r'], [1, 0])
+    folder.month('2027-02')
+    folder.transfer('case-r', {0: (2, 0), 1: (0, 1)})
+    folder.transfer('two-maps', {0: (-1, 0), 1: (1, 3)})
+    sheet = folder.month('--check', status=1)
+    check('an ending with other transfers is named', 'case-r: 7 in 3 out 0 now 1 0\ncase-r: 12 in 0 out 1 now 0 0\n' in sheet, True)
+    folder.month('2027-03')
+    both = [str(a + b) for a, b in zip(*sums.values())]
+    for month, changed, differ in (('2027-02', ('0', '0', '0'), (('0', '0'), ('0', '0'), ('0', '0'))), ('2027-03', ('2', '2', '4'), (('-2', '-1'), ('0', '-3'), ('-2', '-4')))):
+        for name, lines, (fetched, back), now in zip(('case-r', 'two-maps', 'all'), changed, differ, ([str(n) for n in sums['case-r']], [str(n) for n in sums['two-maps']], both)):
+            check(f'{month}, {name}', folder.rows(month)[name], ['0', '0', '0', lines, now[0], fetched, now[1], back])
+    with open(folder.file('drift.tsv')) as f:
+        lines = f.read().split('\n')
+    check('the month of before stays as it was', lines[1], old)
+    check('the columns are named', lines[0], 'month\trun\tendings\tdrifted\tfarthest\ttotal\tchanged\tin\tin-diff\tout\tout-diff')
+    with open(folder.file('drift.tsv'), 'a') as f:
+        f.write('2027-04\tcase-r\t3\t0\t0\t0\t0\t1\t0\n')
+    folder.month('--draw', '2027', status=2)
+
+
 def kept(folder):
     """The picture in runs/ is that of the last year of the table in runs/."""
     shutil.copy('runs/drift.tsv', folder.path)
@@ -212,6 +254,8 @@ def main():
             shutil.copy(folder.file('drift.svg'), given.keep)
         drawn(folder)
         kept(folder)
+    with tempfile.TemporaryDirectory(prefix='month-test-') as path:
+        transferred(Folder(path))
     print(f'month: {done} checks' + (f', {wrong} differ' if wrong else ''))
     sys.exit(1 if wrong else 0)
 

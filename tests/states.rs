@@ -33,11 +33,13 @@ fn whole(random: &mut Random, n: u64, near: &[u64]) -> (Vec<u64>, u64) {
             random.next() >> 32,
             random.next() >> 32,
             random.pick(&[0, 1, 65_534, 65_535]),
+            random.pick(&[0, 1, 254, 255]),
+            random.pick(&[0, 1, 254, 255]),
         ];
-        let six = &mut words[place(x)];
+        let eight = &mut words[place(x)];
         if x as u64 >= t || random.percent(35) {
             if random.percent(30) {
-                six[1..].copy_from_slice(&any);
+                eight[1..].copy_from_slice(&any);
             }
             continue;
         }
@@ -51,16 +53,16 @@ fn whole(random: &mut Random, n: u64, near: &[u64]) -> (Vec<u64>, u64) {
                 blocks.push((map, x as u64 + 1));
             }
         }
-        six[1..].copy_from_slice(&any);
-        six[0] = phase;
-        six[3] = g;
+        eight[1..].copy_from_slice(&any);
+        eight[0] = phase;
+        eight[3] = g;
         match phase {
-            1 => six[2] = 1,
-            4 | 5 => six[1] = 1,
+            1 => eight[2] = 1,
+            4 | 5 => eight[1] = 1,
             _ => {}
         }
         if random.percent(30) {
-            six[4] = 0;
+            eight[4] = 0;
         }
     }
     // Others: those of groups near by, and any.

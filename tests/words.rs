@@ -2,14 +2,14 @@
 //! they say. Written from that page, not from the library.
 
 use crate::model::{
-    in_limits, leaf_of, map_of, Access, Answer, Block, Line, Machine, Phase, Tracker,
+    in_limits, leaf_of, map_of, Access, Answer, Block, Line, Machine, Phase, Tracker, Transfers,
 };
 
-/// n, T, L and the hand; 64 lines; 8 trackers of 6 words.
+/// n, T, L and the hand; 64 lines; 8 trackers of 8 words.
 pub const STATE: usize = LINES + 64 + 8 * TRACKER;
 pub const LINES: usize = 4;
 pub const TRACKERS: usize = LINES + 64;
-pub const TRACKER: usize = 6;
+pub const TRACKER: usize = 8;
 
 const PHASES: [Phase; 5] =
     [Phase::Probe, Phase::Map, Phase::Leaf, Phase::FinishSet, Phase::FinishClear];
@@ -56,8 +56,9 @@ fn line_of(n: u64, word: u64) -> (Line, usize) {
 
 /// A tracker; none if a word is too wide for its field.
 fn tracker_of(words: &[u64]) -> Option<Tracker> {
-    let [phase, write, bottom, g, v, turns] = words.try_into().unwrap();
-    if phase > 5 || write > 1 || bottom > 1 || g >> 32 != 0 || v >> 32 != 0 || turns >> 16 != 0 {
+    let [phase, write, bottom, g, v, turns, fetched, back] = words.try_into().unwrap();
+    let wide = g >> 32 != 0 || v >> 32 != 0 || turns >> 16 != 0 || fetched >> 8 != 0 || back >> 8 != 0;
+    if phase > 5 || write > 1 || bottom > 1 || wide {
         return None;
     }
     if phase == 0 {
@@ -65,7 +66,7 @@ fn tracker_of(words: &[u64]) -> Option<Tracker> {
     }
     let write = if write == 1 { Some(v as u32) } else { None };
     let access = Access { g, write, bottom_up: bottom == 1 };
-    Some(Tracker::Busy { access, phase: PHASES[phase as usize - 1], turns: turns as u16 })
+    Some(Tracker::Busy { access, phase: PHASES[phase as usize - 1], turns: turns as u16, transfers: Transfers { fetched: fetched as u8, back: back as u8 } })
 }
 
 /// The machine, if the words code a whole state: the model finds it whole, what is not used
@@ -108,17 +109,18 @@ pub fn after(old: &[u64], machine: &Machine) -> Vec<u64> {
         words[LINES + i] = line_word(machine.n, line, &machine.trackers);
     }
     for (x, &tracker) in machine.trackers.iter().enumerate() {
-        let six = &mut words[place(x)];
+        let eight = &mut words[place(x)];
         match tracker {
-            Tracker::Idle if six[0] != 0 => six.fill(0),
+            Tracker::Idle if eight[0] != 0 => eight.fill(0),
             Tracker::Idle => {}
-            Tracker::Busy { access, phase, turns } => {
+            Tracker::Busy { access, phase, turns, transfers } => {
                 let number = 1 + PHASES.iter().position(|&one| one == phase).unwrap() as u64;
-                if six[0] == 0 {
+                if eight[0] == 0 {
                     let (write, v) = (access.write.is_some(), access.write.unwrap_or(0));
-                    six[1..5].copy_from_slice(&[write as u64, access.bottom_up as u64, access.g, v as u64]);
+                    eight[1..5].copy_from_slice(&[write as u64, access.bottom_up as u64, access.g, v as u64]);
                 }
-                (six[0], six[5]) = (number, turns as u64);
+                eight[0] = number;
+                eight[5..].copy_from_slice(&[turns as u64, transfers.fetched as u64, transfers.back as u64]);
             }
         }
     }
@@ -135,15 +137,21 @@ pub fn begun(n: u64, t: u64, l: u64) -> Vec<u64> {
 /// The words of an answer.
 pub const ANSWER: usize = 6;
 
+/// An ending's words: what was said, the value, the turns, the blocks fetched and written back.
+fn ending(said: u64, v: u32, turns: u16, t: Transfers) -> [u64; ANSWER] {
+    [said, v as u64, turns as u64, t.fetched as u64, t.back as u64, 0]
+}
+
 /// What was said, as words; a refusal is the number that its call gives.
 pub fn answer(said: Result<Answer, u64>) -> [u64; ANSWER] {
     match said {
         Ok(Answer::Ok) => [0; ANSWER],
         Ok(Answer::Wait) => [1, 0, 0, 0, 0, 0],
         Ok(Answer::Moved) => [2, 0, 0, 0, 0, 0],
-        Ok(Answer::Read(v, turns)) => [3, v as u64, turns as u64, 0, 0, 0],
-        Ok(Answer::Done(turns)) => [4, 0, turns as u64, 0, 0, 0],
-        Ok(Answer::Same(turns)) => [5, 0, turns as u64, 0, 0, 0],
+        Ok(Answer::Read(v, turns, t)) => ending(3, v, turns, t),
+        Ok(Answer::Done(turns, t)) => ending(4, 0, turns, t),
+        Ok(Answer::Same(turns, t)) => ending(5, 0, turns, t),
+        Ok(Answer::Drained(back)) => [0, 0, 0, 0, back as u64, 0],
         Ok(Answer::No(no)) | Err(no) => [(1 << 32) + no, 0, 0, 0, 0, 0],
     }
 }

@@ -36,10 +36,28 @@ pub enum Phase {
     FinishClear,
 }
 
+/// Blocks fetched and blocks written back (02, E4).
+#[derive(Clone, Copy, PartialEq, Debug, Default)]
+pub struct Transfers {
+    pub fetched: u8,
+    pub back: u8,
+}
+
+impl Transfers {
+    /// A sum stays at 255 once there.
+    pub fn one_fetched(&mut self) {
+        self.fetched = self.fetched.saturating_add(1);
+    }
+
+    pub fn one_back(&mut self) {
+        self.back = self.back.saturating_add(1);
+    }
+}
+
 #[derive(Clone, Copy, PartialEq, Debug)]
 pub enum Tracker {
     Idle,
-    Busy { access: Access, phase: Phase, turns: u16 },
+    Busy { access: Access, phase: Phase, turns: u16, transfers: Transfers },
 }
 
 impl Tracker {
@@ -67,15 +85,17 @@ pub struct Machine {
     pub trackers: Vec<Tracker>,
 }
 
-/// What a call answers; a refusal by its number.
+/// What a call answers; a refusal by its number. An ending carries its turns and its
+/// transfers, a drain its write-backs (02, E4).
 #[derive(Clone, Copy, PartialEq, Debug)]
 pub enum Answer {
     Ok,
     Wait,
     Moved,
-    Read(u32, u16),
-    Done(u16),
-    Same(u16),
+    Read(u32, u16, Transfers),
+    Done(u16, Transfers),
+    Same(u16, Transfers),
+    Drained(u8),
     No(u64),
 }
 
@@ -159,8 +179,15 @@ impl Machine {
     /// Placing a block takes the lowest free line, and the hand stays; with none free, the
     /// first line at or after the hand, round the circle, that no tracker holds. That line,
     /// if changed, is first written to its block's own place; the hand then moves to the
-    /// line after it. The new block's bytes are the caller's to fill in.
-    pub fn place(&mut self, block: Block, bytes: &[u8], memory: &mut [u8]) -> usize {
+    /// line after it. The new block's bytes are the caller's to fill in. A line written to
+    /// memory is one block written back.
+    pub fn place(
+        &mut self,
+        block: Block,
+        bytes: &[u8],
+        memory: &mut [u8],
+        transfers: &mut Transfers,
+    ) -> usize {
         let i = match self.lines.iter().position(|&line| line == Line::Free) {
             Some(i) => i,
             None => {
@@ -171,6 +198,7 @@ impl Machine {
                     .expect("L is above T, so some line is not held");
                 if let Line::Changed(old) = self.lines[i] {
                     memory[own_place(self.n, old)].copy_from_slice(&bytes[line(i)]);
+                    transfers.one_back();
                 }
                 self.hand = (i + 1) % l;
                 i
@@ -181,11 +209,18 @@ impl Machine {
     }
 
     /// "Bring in" means: use the line that has the block, else place it and copy 64 bytes
-    /// from memory, clean.
-    pub fn bring_in(&mut self, block: Block, bytes: &mut [u8], memory: &mut [u8]) -> usize {
+    /// from memory, clean. The copy is one block fetched.
+    pub fn bring_in(
+        &mut self,
+        block: Block,
+        bytes: &mut [u8],
+        memory: &mut [u8],
+        transfers: &mut Transfers,
+    ) -> usize {
         self.line_of(block).unwrap_or_else(|| {
-            let i = self.place(block, bytes, memory);
+            let i = self.place(block, bytes, memory, transfers);
             bytes[line(i)].copy_from_slice(&memory[own_place(self.n, block)]);
+            transfers.one_fetched();
             i
         })
     }

@@ -75,6 +75,14 @@ impl Replay {
         Replay { count: 0, machine: None, bytes: Vec::new(), memory: Vec::new() }
     }
 
+    /// The tracker that a line steps, if it is one.
+    pub fn stepped(&self, line: &[u8]) -> Option<Tracker> {
+        match (command(line), &self.machine) {
+            (Some(Command::Step { x }), Some(machine)) => machine.trackers.get(x as usize).copied(),
+            _ => None,
+        }
+    }
+
     /// The answer to the next line.
     pub fn line(&mut self, line: &[u8]) -> Answer {
         self.count += 1;
@@ -113,14 +121,20 @@ impl Replay {
 impl std::fmt::Display for Answer {
     fn fmt(&self, f: &mut std::fmt::Formatter) -> std::fmt::Result {
         match self {
-            Answer::Ok => write!(f, "ok"),
+            Answer::Ok | Answer::Drained(_) => write!(f, "ok"),
             Answer::Wait => write!(f, "wait"),
             Answer::Moved => write!(f, "moved"),
-            Answer::Read(v, turns) => write!(f, "read {v:08x} turns {turns}"),
-            Answer::Done(turns) => write!(f, "done turns {turns}"),
-            Answer::Same(turns) => write!(f, "same turns {turns}"),
+            Answer::Read(v, turns, transfers) => write!(f, "read {v:08x} turns {turns}{transfers}"),
+            Answer::Done(turns, transfers) => write!(f, "done turns {turns}{transfers}"),
+            Answer::Same(turns, transfers) => write!(f, "same turns {turns}{transfers}"),
             Answer::No(refusal) => write!(f, "no {refusal}"),
         }
+    }
+}
+
+impl std::fmt::Display for Transfers {
+    fn fmt(&self, f: &mut std::fmt::Formatter) -> std::fmt::Result {
+        write!(f, " in {} out {}", self.fetched, self.back)
     }
 }
 

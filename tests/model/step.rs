@@ -3,14 +3,22 @@
 use super::*;
 
 impl Machine {
+    /// Refusals 4 and 2, which come first in each call on a state.
+    fn unfit(&self, bytes: &[u8], memory: &[u8]) -> Option<u64> {
+        if !self.whole() {
+            return Some(4);
+        }
+        if !self.lengths_right(bytes, memory) {
+            return Some(2);
+        }
+        None
+    }
+
     /// Issue an access to tracker x. Refusals 4, 2, 5, 6, 7, 13: a write to a group that any
     /// busy tracker has, and a read of a group that a busy write has (02, E3).
     pub fn issue(&mut self, x: u64, access: Access, bytes: &[u8], memory: &[u8]) -> Answer {
-        if !self.whole() {
-            return Answer::No(4);
-        }
-        if !self.lengths_right(bytes, memory) {
-            return Answer::No(2);
+        if let Some(no) = self.unfit(bytes, memory) {
+            return Answer::No(no);
         }
         if x >= self.t {
             return Answer::No(5);
@@ -29,42 +37,41 @@ impl Machine {
             }
         }
         let phase = if access.bottom_up { Phase::Probe } else { Phase::Map };
-        self.trackers[x as usize] = Tracker::Busy { access, phase, turns: 0 };
+        self.trackers[x as usize] =
+            Tracker::Busy { access, phase, turns: 0, transfers: Transfers::default() };
         Answer::Ok
     }
 
     /// One step of tracker x. Refusals 4, 2, 5, 8.
     pub fn step(&mut self, x: u64, bytes: &mut [u8], memory: &mut [u8]) -> Answer {
-        if !self.whole() {
-            return Answer::No(4);
-        }
-        if !self.lengths_right(bytes, memory) {
-            return Answer::No(2);
+        if let Some(no) = self.unfit(bytes, memory) {
+            return Answer::No(no);
         }
         if x >= self.t {
             return Answer::No(5);
         }
         let x = x as usize;
-        let Tracker::Busy { access, phase, turns } = self.trackers[x] else {
+        let Tracker::Busy { access, phase, turns, mut transfers } = self.trackers[x] else {
             return Answer::No(8);
         };
         // Waits included; it stays at 65,535 once there.
         let turns = turns.saturating_add(1);
+        let copies = &mut transfers;
         let moved = match (phase, access.write) {
             (Phase::Probe, _) => self.probe(access, bytes),
-            (Phase::Map, _) => self.map(x, access, bytes, memory),
-            (Phase::Leaf, None) => self.leaf_read(access, bytes, memory),
-            (Phase::Leaf, Some(v)) => self.leaf_write(access, v, bytes, memory),
+            (Phase::Map, _) => self.map(x, access, bytes, memory, copies),
+            (Phase::Leaf, None) => self.leaf_read(access, bytes, memory, copies),
+            (Phase::Leaf, Some(v)) => self.leaf_write(access, v, bytes, memory, copies),
             (Phase::FinishSet, _) => self.finish(access, true, bytes),
             (Phase::FinishClear, _) => self.finish(access, false, bytes),
         };
         let (tracker, answer) = match moved {
-            Move::Wait => (Tracker::Busy { access, phase, turns }, Answer::Wait),
-            Move::On(phase) => (Tracker::Busy { access, phase, turns }, Answer::Moved),
+            Move::Wait => (Tracker::Busy { access, phase, turns, transfers }, Answer::Wait),
+            Move::On(phase) => (Tracker::Busy { access, phase, turns, transfers }, Answer::Moved),
             // Ending lets go: an idle tracker holds nothing.
-            Move::EndRead(v) => (Tracker::Idle, Answer::Read(v, turns)),
-            Move::EndDone => (Tracker::Idle, Answer::Done(turns)),
-            Move::EndSame => (Tracker::Idle, Answer::Same(turns)),
+            Move::EndRead(v) => (Tracker::Idle, Answer::Read(v, turns, transfers)),
+            Move::EndDone => (Tracker::Idle, Answer::Done(turns, transfers)),
+            Move::EndSame => (Tracker::Idle, Answer::Same(turns, transfers)),
         };
         self.trackers[x] = tracker;
         answer
@@ -86,13 +93,20 @@ impl Machine {
 
     /// Map. If another tracker holds this map block: wait. Else bring it in. Bit 0: a read
     /// ends with 0; a write of 0 ends "same". Otherwise hold the map block, on to Leaf.
-    fn map(&mut self, x: usize, access: Access, bytes: &mut [u8], memory: &mut [u8]) -> Move {
+    fn map(
+        &mut self,
+        x: usize,
+        access: Access,
+        bytes: &mut [u8],
+        memory: &mut [u8],
+        transfers: &mut Transfers,
+    ) -> Move {
         let k = leaf_of(access.g);
         let map = Block::Map(map_of(k));
         if (0..self.trackers.len()).any(|y| y != x && self.trackers[y].held() == Some(map)) {
             return Move::Wait;
         }
-        let i = self.bring_in(map, bytes, memory);
+        let i = self.bring_in(map, bytes, memory, transfers);
         match (bit_in(&bytes[line(i)], k), access.write) {
             (false, None) => Move::EndRead(0),
             (false, Some(0)) => Move::EndSame,
@@ -101,18 +115,31 @@ impl Machine {
     }
 
     /// Leaf, read. Bring in the leaf, end with the group, let go.
-    fn leaf_read(&mut self, access: Access, bytes: &mut [u8], memory: &mut [u8]) -> Move {
-        let i = self.bring_in(Block::Leaf(leaf_of(access.g)), bytes, memory);
+    fn leaf_read(
+        &mut self,
+        access: Access,
+        bytes: &mut [u8],
+        memory: &mut [u8],
+        transfers: &mut Transfers,
+    ) -> Move {
+        let i = self.bring_in(Block::Leaf(leaf_of(access.g)), bytes, memory, transfers);
         Move::EndRead(group_in(&bytes[line(i)], access.g))
     }
 
     /// Leaf, write. The bit is read again in the held map line.
-    fn leaf_write(&mut self, access: Access, v: u32, bytes: &mut [u8], memory: &mut [u8]) -> Move {
+    fn leaf_write(
+        &mut self,
+        access: Access,
+        v: u32,
+        bytes: &mut [u8],
+        memory: &mut [u8],
+        transfers: &mut Transfers,
+    ) -> Move {
         let k = leaf_of(access.g);
         let map = self.line_of(Block::Map(map_of(k))).expect("a held map block is in a line");
         if bit_in(&bytes[line(map)], k) {
             // Bit 1: bring in the leaf.
-            let i = self.bring_in(Block::Leaf(k), bytes, memory);
+            let i = self.bring_in(Block::Leaf(k), bytes, memory, transfers);
             if group_in(&bytes[line(i)], access.g) == v {
                 return Move::EndSame;
             }
@@ -135,7 +162,7 @@ impl Machine {
             // The leaf goes into its line if it has one, else is placed; changed.
             let i = match self.line_of(Block::Leaf(k)) {
                 Some(i) => i,
-                None => self.place(Block::Leaf(k), bytes, memory),
+                None => self.place(Block::Leaf(k), bytes, memory, transfers),
             };
             bytes[line(i)].copy_from_slice(&leaf);
             self.lines[i] = Line::Changed(Block::Leaf(k));
@@ -154,35 +181,31 @@ impl Machine {
     }
 
     /// Drain writes changed lines to memory, lowest line first, and marks them clean; the
-    /// lines stay. Refusals 4, 2, 7.
+    /// lines stay. Refusals 4, 2, 7. It reports its write-backs (02, E4).
     pub fn drain(&mut self, bytes: &[u8], memory: &mut [u8]) -> Answer {
-        if !self.whole() {
-            return Answer::No(4);
-        }
-        if !self.lengths_right(bytes, memory) {
-            return Answer::No(2);
+        if let Some(no) = self.unfit(bytes, memory) {
+            return Answer::No(no);
         }
         if self.any_busy() {
             return Answer::No(7);
         }
+        let mut transfers = Transfers::default();
         for i in 0..self.lines.len() {
             if let Line::Changed(block) = self.lines[i] {
                 memory[own_place(self.n, block)].copy_from_slice(&bytes[line(i)]);
+                transfers.one_back();
                 self.lines[i] = Line::Clean(block);
             }
         }
-        Answer::Ok
+        Answer::Drained(transfers.back)
     }
 
     /// Showing leaf k hands back the caller's own bytes: the 64 in the lines, if a line has
     /// it; else, under bit 1 (read in the map block's line if it has one), the 64 in memory;
     /// under bit 0, an empty part of memory. Refusals 4, 2, 6, 7.
     pub fn show<'a>(&self, k: u64, bytes: &'a [u8], memory: &'a [u8]) -> Result<&'a [u8], u64> {
-        if !self.whole() {
-            return Err(4);
-        }
-        if !self.lengths_right(bytes, memory) {
-            return Err(2);
+        if let Some(no) = self.unfit(bytes, memory) {
+            return Err(no);
         }
         if k >= self.n {
             return Err(6);

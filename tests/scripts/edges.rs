@@ -7,8 +7,10 @@ pub const CASE_R: &str =
     "n 2 3 2\nw 0 17 0000000a t\nw 1 17 00000000 t\ns 0\ns 1\ns 0\ns 0\ns 1\ns 1\n\
                       s 1\nr 0 17 b\ns 0\ns 0\nd\n";
 pub const CASE_R_OUTPUT: &str =
-    "1 ok\n2 ok\n3 no 13\n4 moved\n5 no 8\n6 moved\n7 done turns 3\n8 no 8\n9 no 8\n\
-                             10 no 8\n11 ok\n12 read 0000000a turns 1\n13 no 8\n14 ok\n";
+    "1 ok\n2 ok\n3 no 13\n4 moved\n5 no 8\n6 moved\n\
+                             7 done turns 3 in 1 out 0\n8 no 8\n9 no 8\n\
+                             10 no 8\n11 ok\n12 read 0000000a turns 1 in 0 out 0\n\
+                             13 no 8\n14 ok\n";
 
 /// Lines that are not of the form, or nearly not.
 pub fn bad_lines() -> Vec<Vec<u8>> {

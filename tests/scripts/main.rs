@@ -38,6 +38,7 @@ fn main() {
         endings: 0,
         at_bound: 0,
         refused_13: 0,
+        most_transfers: [0; 2],
     };
     edges(&mut player);
     println!("scripts: {} edge scripts, {} lines", player.scripts, player.lines);
@@ -68,5 +69,9 @@ fn main() {
         player.endings, player.at_bound
     );
     println!("scripts: {} issues refused 13", player.refused_13);
+    println!(
+        "scripts: {} endings with 4 transfers, {} that set a bit with 3, none above",
+        player.most_transfers[0], player.most_transfers[1]
+    );
     println!("scripts: {} scripts, {} lines", player.scripts, player.lines);
 }

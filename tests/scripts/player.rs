@@ -1,7 +1,7 @@
 //! A script under way, and the program that plays it beside the model.
 
 use super::model;
-use super::model::{Replay, Tracker};
+use super::model::{Answer, Phase, Replay, Tracker};
 use std::io::{Read, Write};
 use std::process::{exit, Child, Command, Stdio};
 
@@ -53,6 +53,8 @@ pub struct Player {
     pub endings: u64,
     pub at_bound: u64,
     pub refused_13: u64,
+    /// Endings with 4 transfers, and endings that set a bit with 3.
+    pub most_transfers: [u64; 2],
 }
 
 impl Player {
@@ -63,7 +65,7 @@ impl Player {
             0 => self.from_file(script),
             _ => self.from_pipe(script, piece),
         };
-        let expected = model::replay(script);
+        let expected = self.by_model(script);
         if output != expected {
             self.different(script, &output, &expected);
         }
@@ -79,7 +81,8 @@ impl Player {
                 );
             }
             if words.len() > 2 {
-                let turns: u64 = words[words.len() - 1].parse().unwrap();
+                let at = words.iter().position(|&word| word == "turns").unwrap();
+                let turns: u64 = words[at + 1].parse().unwrap();
                 if turns > *bound {
                     self.stop(script, &format!("above its bound {bound}: {}", words.join(" ")));
                 }
@@ -89,6 +92,25 @@ impl Player {
         }
         self.scripts += 1;
         self.lines += model::lines(script).len() as u64;
+    }
+
+    /// The model's output. An ending has at most 4 transfers, and at most 3 if it sets a bit
+    /// (02, E4).
+    fn by_model(&mut self, script: &[u8]) -> Vec<u8> {
+        let (mut replay, mut output) = (Replay::new(), Vec::new());
+        for line in model::lines(script) {
+            let sets = matches!(replay.stepped(line), Some(Tracker::Busy { phase: Phase::FinishSet, .. }));
+            let answer = replay.line(line);
+            writeln!(output, "{} {}", replay.count, answer).unwrap();
+            if let Answer::Read(_, _, sums) | Answer::Done(_, sums) | Answer::Same(_, sums) = answer {
+                let (sum, most) = (sums.fetched + sums.back, if sets { 3 } else { 4 });
+                if sum > most {
+                    self.stop(script, &format!("above {most} transfers: {} {answer}", replay.count));
+                }
+                self.most_transfers[sets as usize] += (sum == most) as u64;
+            }
+        }
+        output
     }
 
     pub fn start(&self, stdin: Stdio, stderr: Stdio) -> Child {

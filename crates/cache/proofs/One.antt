@@ -1,9 +1,10 @@
--- Each public function has one answer: what a call did names its answer, its state and its bytes, so two results that a promise allows are equal.
+-- Each public function has one answer: what a call did names its answer, its state, its transfers and its bytes, so two results that a promise allows are equal.
 use mathlib.Core.Path.{_≡_, sym, ap, _∙_}
 use mathlib.Core.List.{List}
 use mathlib.Core.Bool.{Bool}
 use Prim.Native.Nat.{ℕ}
 use Rattle.tracker.specs.declared.Access.{Access}
+use Rattle.tracker.specs.declared.Transfers.{Transfers}
 use Rattle.tracker.specs.declared.Answer.{Answer}
 use Rattle.tracker.proofs.One.{says-one}
 use Rattle.rules.specs.State as rules
@@ -25,10 +26,13 @@ seen-one a b e = ap stateOf e
 -- two calls that did the same answered alike and left the same
 module _ (a b : Out) (x y m k : List ℕ) (e : did a x m ≡ did b y k) where
   pub did-one : a ≡ b
-  did-one = together (a .state) (b .state) (a .answer) (b .answer) (seen-one (a .state) (b .state) (ap (λ (o : calls.Out). o .state) e)) (says-one (a .answer) (b .answer) (ap (λ (o : calls.Out). o .said) e))
+  did-one =
+      together (a .state) (b .state) (a .answer) (b .answer) (a .transfers) (b .transfers) (seen-one (a .state) (b .state) (ap (λ (o : calls.Out). o .state) e))
+      (says-one (a .answer) (b .answer) (ap (λ (o : calls.Out). o .said) e)) (ap (λ (o : calls.Out). o .transfers) e)
     where
-      together : (s t : State) (c d : Answer) → s ≡ t → c ≡ d → _≡_ {A = Out} (record { state = s; answer = c }) (record { state = t; answer = d })
-      together s t c d p q = rw (p, q)
+      together : (s t : State) (c d : Answer) (f g : Transfers) → s ≡ t → c ≡ d → f ≡ g
+          → _≡_ {A = Out} (record { state = s; answer = c; transfers = f }) (record { state = t; answer = d; transfers = g })
+      together s t c d f g p q h = rw (p, q, h)
 
   pub bytes-one : x ≡ y
   bytes-one = ap (λ (o : calls.Out). o .bytes) e

@@ -1,5 +1,5 @@
 -- Laws of the calls by the way they end: each refusal where its test fails and those before it hold, and the call where all hold.
-use mathlib.Core.Path.{_≡_, refl, _∙_}
+use mathlib.Core.Path.{_≡_, refl, sym, _∙_}
 use mathlib.Core.List.{List, [], _∷_, _++_}
 use mathlib.Core.Bool.{true, false}
 use Prim.Native.Nat.{ℕ, _+_, _*_, _≤_, _<_}
@@ -20,13 +20,14 @@ use Rattle.memory.specs.PlainReading.{leafBit}
 use Rattle.memory.specs.True.{isTrue, clearedMap}
 use Rattle.tracker.specs.declared.Access.{Access}
 use Rattle.tracker.specs.Tracker.{issued, isIdle}
+use Rattle.tracker.specs.Answer.{ok}
 use Rattle.line.specs.Find.{lineOf}
 use Rattle.rules.specs.State.{State, trackerAt, lengthsRight, begun, zeroState}
 use Rattle.rules.specs.Whole.{limits, whole}
-use Rattle.rules.specs.Place.{rowsFit, drained}
+use Rattle.rules.specs.Place.{rowsFit}
 use Rattle.rules.specs.Step.{turnOf}
 use Rattle.rules.specs.Calls.{refused, accepted, freshTests, fresh, openTests, opened, stateTests, withTracker, issueTests, issueNo, issue, stepped, stepTests, stepNo, step, allIdle, drainTests, drainNo, withLines, drain, showTests, showNo, shownBit, show}
-use Rattle.placing.specs.Lines.{rows, drainedRows}
+use Rattle.placing.specs.Lines.{rows, Drained, allDrained, drainedOn}
 use Rattle.rules.proofs.Whole.{n-most, t-most, l-most, whole-facts}
 use Rattle.rules.proofs.Calls.{bytes-right, memory-right}
 use Rattle.rules.proofs.Begun.{fresh-free, fresh-refused as refuses-fresh, fresh-accepted as accepts-fresh, open-refused as refuses-open, open-accepted as accepts-open}
@@ -151,8 +152,8 @@ module _ (s : State) (bytes memory : List ℕ) where
   drain-fit e = past-no s bytes memory _ e
 
   -- where a drain is not refused, the rows are of L lines
-  pub drain-rows : drainNo s bytes memory ≡ 0 → length (s .lines) ≡ mostLines → drainedRows (s .shape) (rows (s .lines) bytes memory) ≡ drained (s .shape .l) (rows (s .lines) bytes memory)
-  unfolding drainNo drainedRows rowsFit
+  drain-rows : drainNo s bytes memory ≡ 0 → length (s .lines) ≡ mostLines → drainedOn (s .shape) (rows (s .lines) bytes memory) ≡ allDrained (s .shape .l) (rows (s .lines) bytes memory)
+  unfolding drainNo drainedOn rowsFit
   drain-rows e h =
       let h' = refusal-hold (stateTests s bytes memory ++ drainTests (allIdle s)) refl e in
       let f : both (leb (s .shape .l) (length (s .lines))) (eqb (length bytes) (64 * s .shape .l)) ≡ true =
@@ -164,11 +165,10 @@ module _ (s : State) (bytes memory : List ℕ) where
   unfolding drain
   drain-refused c e h = rw (← e) (unless-no _ _ h)
 
-  pub drain-accepted : drainNo s bytes memory ≡ 0
-      → drain s bytes memory
-      ≡ accepted (withLines s (drained (s .shape .l) (rows (s .lines) bytes memory) .lines)) bytes (drained (s .shape .l) (rows (s .lines) bytes memory) .memory)
+  pub drain-accepted : {d : Drained} → drainNo s bytes memory ≡ 0 → length (s .lines) ≡ mostLines → d ≡ drainedOn (s .shape) (rows (s .lines) bytes memory)
+      → (record { said = ok; state = withLines s (d .rows .lines); bytes = bytes; memory = d .rows .memory; transfers = d .copies }) ≡ drain s bytes memory
   unfolding drain
-  drain-accepted e = unless-0 _ _ e
+  drain-accepted e h q = rw (q ∙ drain-rows e h) (sym (unless-0 _ _ e))
 
 -- show
 module _ (s : State) (bytes memory : List ℕ) (k : ℕ) where

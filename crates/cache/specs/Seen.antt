@@ -21,6 +21,6 @@ unready n t l bytes memory = refusal (calls.freshTests (shapeOf n t l) bytes mem
 abbrev pub unfit : rules.State → List ℕ → List ℕ → ℕ
 unfit s bytes memory = refusal (calls.stateTests s bytes memory)
 
--- what a call says, the state that it hands back, and the line bytes and the memory that it leaves
+-- what a call says, the state and the transfers that it hands back, and the line bytes and the memory that it leaves
 abbrev pub did : Out → List ℕ → List ℕ → calls.Out
-did r bytes memory = record { said = says (r .answer); state = seen (r .state); bytes = bytes; memory = memory }
+did r bytes memory = record { said = says (r .answer); state = seen (r .state); bytes = bytes; memory = memory; transfers = r .transfers }

@@ -6,17 +6,18 @@ use outcome::Turned;
 use tracker::Access;
 use tracker::Answer;
 use tracker::Tracker;
+use tracker::Transfers;
 ghost use mathlib.Core.Path.{_≡_};
+ghost use mathlib.Core.List.{List};
 ghost use mathlib.Core.Bool.{true};
-ghost use Prim.Native.Nat.{_≤_};
-ghost use Rattle.tracker.specs.Answer.{says, no};
+ghost use Prim.Native.Nat.{ℕ, _≤_};
 ghost use Rattle.geometry.specs.Shape.{shapeOf};
 ghost use Rattle.geometry.specs.TagMemory.{mostLeaves, mostLines};
 ghost use Rattle.rules.specs.State.{begun, zeroState};
 ghost use Rattle.rules.specs.Whole.{limits, whole};
 ghost use Rattle.rules.specs.Step.{turnOf};
-ghost use Rattle.rules.specs.Calls.{fresh, opened, issueNo, issue, stepNo, step, drainNo, drain, showNo, shownBit, show};
-ghost use Rattle.placing.specs.Lines.{rows, drainedRows};
+ghost use Rattle.rules.specs.Calls.{refused, fresh, opened, issueNo, issue, stepNo, step, drainNo, drain, showNo, shownBit, show};
+ghost use Rattle.placing.specs.Lines.{rows, drainedOn, leaves};
 ghost use Rattle.outcome.specs.Steps.{turned};
 ghost use Rattle.cache.specs.Seen.{seen, unready, unfit, did};
 
@@ -27,17 +28,23 @@ pub struct State {
     pub trackers: [Tracker; Geometry::MOST_TRACKERS],
 }
 
-// What a call hands back: the state, and beside it the answer.
+// What a call hands back: the state, and beside it the answer, and the transfers that an ending or a drain carries.
 pub struct Out {
     pub state: State,
     pub answer: Answer,
+    pub transfers: Transfers,
 }
 
 // The row of lines, lent on as a slice to be drained.
-fn drain_row(shape: Shape, row: &mut [u32; Geometry::MOST_LINES], bytes: &[u8], memory: &mut [u8])
-    ensures { λ _. ⌜ rows (now (row .exit)) (now (bytes .entry)) (now (memory .exit)) ≡ drainedRows shape (rows (now (row .entry)) (now (bytes .entry)) (now (memory .entry))) ⌝ }
+fn drain_row(
+    shape: Shape,
+    row: &mut [u32; Geometry::MOST_LINES],
+    bytes: &[u8],
+    memory: &mut [u8],
+) -> Transfers
+    ensures { λ r. ⌜ leaves r (now (row .exit)) (now (bytes .entry)) (now (memory .exit)) ≡ drainedOn shape (rows (now (row .entry)) (now (bytes .entry)) (now (memory .entry))) ⌝ }
 {
-    placing::drain(shape, row, bytes, memory);
+    placing::drain(shape, row, bytes, memory)
 }
 
 // The row of lines, lent on as a slice for a step.
@@ -77,21 +84,23 @@ impl State {
 
     // A refusal of fresh or open: its number, and a state that is zero throughout.
     fn none(c: u8) -> Out
-        ensures { λ r. ⌜ (seen (r .state) ≡ zeroState) × (says (r .answer) ≡ no c) ⌝ }
+        ensures { λ r. ⌜ ((bs m : List ℕ) → did r bs m ≡ refused c zeroState bs m) ⌝ }
     {
         Out {
             state: State::begin(Shape::start(0, 0, 0)),
             answer: Answer::No(c),
+            transfers: Transfers::none(),
         }
     }
 
     // A refusal: its number and the given state.
     fn refuse(self, c: u8) -> Out
-        ensures { λ r. ⌜ (r .state ≡ self) × (says (r .answer) ≡ no c) ⌝ }
+        ensures { λ r. ⌜ ((bs m : List ℕ) → did r bs m ≡ refused c (seen self) bs m) ⌝ }
     {
         Out {
             state: self,
             answer: Answer::No(c),
+            transfers: Transfers::none(),
         }
     }
 
@@ -130,6 +139,7 @@ impl State {
         Out {
             state: State::begin(shape),
             answer: Answer::Accepted,
+            transfers: Transfers::none(),
         }
     }
 
@@ -148,6 +158,7 @@ impl State {
         Out {
             state: State::begin(shape),
             answer: Answer::Accepted,
+            transfers: Transfers::none(),
         }
     }
 
@@ -192,6 +203,7 @@ impl State {
         Out {
             state: self,
             answer: Answer::Accepted,
+            transfers: Transfers::none(),
         }
     }
 
@@ -225,9 +237,11 @@ impl State {
         let left = r.tracker;
         self.trackers[k] = left;
         let answer = r.answer;
+        let transfers = r.transfers;
         Out {
             state: self,
             answer,
+            transfers,
         }
     }
 
@@ -253,10 +267,11 @@ impl State {
             return self.refuse(c);
         }
         let shape = self.shape;
-        drain_row(shape, &mut self.lines, bytes, memory);
+        let transfers = drain_row(shape, &mut self.lines, bytes, memory);
         Out {
             state: self,
             answer: Answer::Accepted,
+            transfers,
         }
     }
 

@@ -12,7 +12,7 @@ use Rattle.block.specs.Block.{putGroup, allZero}
 use Rattle.tracker.specs.declared.Phase.{Phase}
 use Rattle.tracker.specs.declared.Phase.the-variants.{Idle, Probe, Map, Leaf, Set, Clear}
 use Rattle.tracker.specs.declared.Tracker.{Tracker}
-use Rattle.tracker.specs.Tracker.{idle, tick, goesTo, counted}
+use Rattle.tracker.specs.Tracker.{idle, tick, at, counted}
 use Rattle.tracker.specs.Answer.{Said, wait, no}
 use Rattle.tracker.specs.Answer as Answer
 use Rattle.line.specs.Word.{held}
@@ -34,7 +34,7 @@ lockHeld shape lines g =
 -- what a move of the table says and leaves of the tracker
 abbrev pub Moved : Tracker → Move Phase → Said → Tracker → Type 0
 Moved t waits said t' = (said ≡ wait) × (t' ≡ counted t)
-Moved t (to p) said t' = (said ≡ Answer.moved) × (t' ≡ goesTo t p)
+Moved t (to p) said t' = (said ≡ Answer.moved) × (t' ≡ at t p (t' .transfers))
 Moved t ends said t' = Ending said (tick (t .turns)) × (t' ≡ idle)
 
 pub data Way (t : Tracker) (held write : Bool) (p : Phase) (r : Turned) : Type 0 where

@@ -15,9 +15,9 @@ use Rattle.tracker.specs.Tracker as Tracker
 use Rattle.tracker.specs.Answer.{ok, no}
 use Rattle.rules.specs.State.{lengthsRight}
 use Rattle.rules.specs.Whole.{whole}
-use Rattle.rules.specs.Calls.{Out, accepted, withTracker, withLines, issueTests, issueNo, issue, stepTests, stepNo, step, allIdle, drainNo, drain}
+use Rattle.rules.specs.Calls.{Out, accepted, withTracker, issueTests, issueNo, issue, stepTests, stepNo, step, allIdle, drainsTo, drainNo, drain}
 use Rattle.rules.specs.Calls as Calls
-use Rattle.rules.specs.Run.{Call, issues, steps, drains, lends, Kept, kept, elsewhere, does}
+use Rattle.rules.specs.Run.{Call, issues, steps, drains, lends, Kept, kept, rowsOf, elsewhere, does}
 use Rattle.rules.proofs.Calls.{issue-refused, issue-accepted, issue-free, step-refused, step-free, drain-is, drain-busy}
 use Rattle.circle.proofs.Circle.{trackerIn}
 use Rattle.circle.proofs.Ready.{right, Ready, issue-keeps, step-keeps, drain-keeps, never-refused}
@@ -35,7 +35,7 @@ pub data Outcome (k : Kept) : Call → Out → Type 0 where
       → does k (issues x access) ≡ accepted (withTracker (k .state) x (Tracker.issued access)) (k .bytes) (k .memory)
       → Outcome k (issues x access) (does k (issues x access))
   stepped : (x : ℕ) → x < k .state .shape .t → isIdle (trackerIn k x) ≡ false → Outcome k (steps x) (does k (steps x))
-  drained : (lines memory : List ℕ) → allIdle (k .state) ≡ true → does k drains ≡ accepted (withLines (k .state) lines) (k .bytes) memory → Outcome k drains (does k drains)
+  drained : allIdle (k .state) ≡ true → does k drains ≡ drainsTo (k .state) (rowsOf k) → Outcome k drains (does k drains)
 
 -- a call refused in a state that it leaves, with other bytes lent
 record Refuses (k : Kept) (o : Out) : Type 0 where
@@ -81,7 +81,7 @@ module _ (k : Kept) (s : Ready k) where
   drain-outcome = at (true-or-false (allIdle (k .state)))
     where
       at : (allIdle (k .state) ≡ true) ⊎ (allIdle (k .state) ≡ false) → Outcome k drains (does k drains)
-      at (inl e) = drained _ _ e (drain-is (k .state) (k .bytes) (k .memory) (s .0) (s .1) e)
+      at (inl e) = drained e (drain-is (k .state) (k .bytes) (k .memory) (s .0) (s .1) e)
       at (inr e) = rw (drain-busy (k .state) (k .bytes) (k .memory) (s .0) (s .1) e) (refused-out drains 7)
 
   lent-outcome : (b m : List ℕ) (c : Call) (q : Bool) (a o : Out) → Outcome k (bare c) a → (q ≡ false → Refuses k o) → Outcome k (bare c) (pick q a (elsewhere o k))
@@ -109,7 +109,7 @@ refused-same k s c r e = at (bare c) (does k c) (outcome k s c) e
     at c' o (refused r' q same) e = same
     at c' o (issued x access p q is) e = absurd (ok-not-no (sym (ap (λ (a : Out). a .said) is) ∙ e))
     at c' o (stepped x p q) e = absurd (never-refused k s x r p q e)
-    at c' o (drained lines memory q is) e = absurd (ok-not-no (sym (ap (λ (a : Out). a .said) is) ∙ e))
+    at c' o (drained q is) e = absurd (ok-not-no (sym (ap (λ (a : Out). a .said) is) ∙ e))
 
 -- Every call keeps a ready state ready.
 pub call-keeps : (k : Kept) → Ready k → (c : Call) → Ready (kept (does k c))
@@ -119,4 +119,4 @@ call-keeps k s c = at (bare c) (does k c) (outcome k s c)
     at c' o (refused r q same) = rw same s
     at c' o (issued x access p q is) = issue-keeps k s x access
     at c' o (stepped x p q) = step-keeps k s x
-    at c' o (drained lines memory q is) = drain-keeps k s
+    at c' o (drained q is) = drain-keeps k s

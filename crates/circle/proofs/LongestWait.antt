@@ -239,7 +239,7 @@ module _ (M : ℕ) (o : Order (suc M)) where
 
     drain-at : (o' : Out) → Outcome k drains o' → o' .said ≡ ok → Ready (kept o') → Keeps (kept o') i given under
     drain-at o' (Calls.refused r q z) e s = absurd (ok-not-no (sym e ∙ q))
-    drain-at o' (Calls.drained lines memory q is) e s =
+    drain-at o' (Calls.drained q is) e s =
         keeps-same (kept o') s (ap (λ (a : Out). a .state .shape .n) is) (ap (λ (a : Out). a .state .shape .t) is) (ap (λ (a : Out). a .state .trackers) is)
 
   keeps : {k : Kept} {i : ℕ} {given : ℕ → ℕ} {under : ℕ → Bool} → Circle (suc M) o k i given under → Keeps k i given under

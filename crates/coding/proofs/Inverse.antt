@@ -17,10 +17,11 @@ use Rattle.laws.proofs.Parts.{piece, part-add, part-none, part-all}
 use Rattle.geometry.specs.TagMemory.{values, mostTrackers, mostLines}
 use Rattle.tracker.specs.declared.Tracker.{Tracker}
 use Rattle.tracker.specs.Tracker.{idle, mostTurns}
+use Rattle.tracker.specs.Transfers.{mostTransfers}
 use Rattle.rules.specs.State.{State, trackerAt}
 use Rattle.coding.specs.Words.{trackerPlace, stateWords, phaseNumber, shapeCoded, trackerCoded, trackersCoded, coded, trackerIn, trackersTo, shapeIn, decoded, codesTracker, codesShape, codesLine, codes}
 use Rattle.coding.specs.Fields.{TrackerFits, Fits}
-use Rattle.laws.proofs.Stores.{part-4, part-6}
+use Rattle.laws.proofs.Stores.{part-4, part-8}
 use Rattle.coding.proofs.Trackers.{phaseNumber-phaseOf, phaseNumber-below, one-eqb, one-below, trackersTo-coded, trackers-append, trackers-one, trackers-split, length-before}
 use Rattle.coding.proofs.Turns.{narrow, coding, length-trackersTo, length-coded}
 
@@ -61,11 +62,11 @@ pub coded-one : (s u : State) → length (s .lines) ≡ mostLines → length (s 
 coded-one s u a b c d e = sym (decoded-coded s a b) ∙ ap decoded e ∙ decoded-coded u c d
 
 -- words that code a tracker are its coding
-tracker-back : (w : List ℕ) (at : ℕ) → at + 6 ≤ length w → codesTracker w at ≡ true → trackerCoded (trackerIn w at) ≡ part w at 6
+tracker-back : (w : List ℕ) (at : ℕ) → at + 8 ≤ length w → codesTracker w at ≡ true → trackerCoded (trackerIn w at) ≡ part w at 8
 unfolding trackerCoded trackerIn
 tracker-back w at h q =
     let n = narrow w at q in
-    rw (phaseNumber-phaseOf (getD w at 0) (n .phase), one-eqb (getD w (at + 1) 0) (n .write), one-eqb (getD w (at + 2) 0) (n .bottom)) (sym (part-6 w at h))
+    rw (phaseNumber-phaseOf (getD w at 0) (n .phase), one-eqb (getD w (at + 1) 0) (n .write), one-eqb (getD w (at + 2) 0) (n .bottom)) (sym (part-8 w at h))
 
 trackersTo-zero : (w : List ℕ) → trackersCoded (trackersTo w 0) ≡ []
 unfolding trackersTo trackersCoded
@@ -76,14 +77,14 @@ unfolding trackersTo
 trackersTo-suc w x =
     trackers-append (trackersTo w x) (trackerIn w (trackerPlace x) ∷ []) ∙ ap (λ (l : List ℕ). trackersCoded (trackersTo w x) ++ l) (trackers-one (trackerIn w (trackerPlace x)))
 
-trackers-part : (w : List ℕ) (x : ℕ) → trackerPlace x ≤ length w → ((y : ℕ) → y < x → codesTracker w (trackerPlace y) ≡ true) → trackersCoded (trackersTo w x) ≡ part w 68 (6 * x)
+trackers-part : (w : List ℕ) (x : ℕ) → trackerPlace x ≤ length w → ((y : ℕ) → y < x → codesTracker w (trackerPlace y) ≡ true) → trackersCoded (trackersTo w x) ≡ part w 68 (8 * x)
 trackers-part w zero h q = trackersTo-zero w ∙ sym (part-none w 68)
 trackers-part w (suc x) h q =
-    let e : 6 * suc x ≡ 6 * x + 6 = omega arith in
-    let k : 68 + 6 * x + 6 ≤ length w = omega arith in
+    let e : 8 * suc x ≡ 8 * x + 8 = omega arith in
+    let k : 68 + 8 * x + 8 ≤ length w = omega arith in
     trackersTo-suc w x
     ∙ rw (trackers-part w x (omega arith) (λ y l. q y (omega arith)), tracker-back w (trackerPlace x) k (q x (omega arith)), e)
-    (sym (part-add w 68 (6 * x) 6))
+    (sym (part-add w 68 (8 * x) 8))
 
 -- words that code a state are the coding of what they code
 pub coded-decoded : (w : List ℕ) → codes w ≡ true → coded (decoded w) ≡ w
@@ -92,24 +93,27 @@ coded-decoded w h =
     let c = coding w h in
     let e = c .size in
     rw (trackers-part w 8 (omega arith) (c .trackers))
-    (ap (λ (l : List ℕ). l ++ (part w 4 64 ++ part w 68 48)) (sym (part-4 w (omega arith))) ∙ ap (λ (l : List ℕ). part w 0 4 ++ l) (sym (part-add w 4 64 48)) ∙ sym (part-add w 0 4 112) ∙ part-all w 116 e)
+    (ap (λ (l : List ℕ). l ++ (part w 4 64 ++ part w 68 64)) (sym (part-4 w (omega arith))) ∙ ap (λ (l : List ℕ). part w 0 4 ++ l) (sym (part-add w 4 64 64)) ∙ sym (part-add w 0 4 128) ∙ part-all w 132 e)
 
 -- the coding of a state whose fields fit codes a state
 tracker-codes : (q r : List ℕ) (t : Tracker) → TrackerFits t → codesTracker (q ++ (trackerCoded t ++ r)) (length q) ≡ true
 unfolding codesTracker trackerCoded
 tracker-codes q r t f =
-    let ws : List ℕ = phaseNumber (t .phase) ∷ one (t .write) ∷ one (t .bottom) ∷ t .group ∷ t .value ∷ t .turns ∷ r in
+    let ws : List ℕ = phaseNumber (t .phase) ∷ one (t .write) ∷ one (t .bottom) ∷ t .group ∷ t .value ∷ t .turns ∷ t .transfers .fetched ∷ t .transfers .back ∷ r in
     rw (
-      getD-append-seam q (phaseNumber (t .phase)) (one (t .write) ∷ one (t .bottom) ∷ t .group ∷ t .value ∷ t .turns ∷ r) 0,
+      getD-append-seam q (phaseNumber (t .phase)) (one (t .write) ∷ one (t .bottom) ∷ t .group ∷ t .value ∷ t .turns ∷ t .transfers .fetched ∷ t .transfers .back ∷ r) 0,
       getD-append-add q ws 1 0,
       getD-append-add q ws 2 0,
       getD-append-add q ws 3 0,
       getD-append-add q ws 4 0,
       getD-append-add q ws 5 0,
+      getD-append-add q ws 6 0,
+      getD-append-add q ws 7 0,
     )
-    (both-true _ _
+    (both-true _ _ (both-true _ _
     (both-true _ _ (lt-ltb (phaseNumber (t .phase)) 6 (phaseNumber-below (t .phase))) (both-true _ _ (lt-ltb (one (t .write)) 2 (one-below (t .write))) (lt-ltb (one (t .bottom)) 2 (one-below (t .bottom)))))
     (both-true _ _ (lt-ltb (t .group) values (f .group)) (both-true _ _ (lt-ltb (t .value) values (f .value)) (lt-ltb (t .turns) (suc mostTurns) (omega (arith, f .turns))))))
+    (both-true _ _ (lt-ltb (t .transfers .fetched) (suc mostTransfers) (omega (arith, f .fetched))) (lt-ltb (t .transfers .back) (suc mostTransfers) (omega (arith, f .back)))))
 
 module _ (s : State) (f : Fits s) where
   line-codes : (i : ℕ) → i < 64 → codesLine (coded s) i ≡ true
@@ -141,7 +145,9 @@ unfolding trackerIn
 tracker-fits w at q =
     let n = narrow w at q in
     let t = n .turns in
-    record { group = n .group; value = n .value; turns = omega arith }
+    let f = n .fetched in
+    let b = n .back in
+    record { group = n .group; value = n .value; turns = omega arith; fetched = omega arith; back = omega arith }
 
 trackersTo-front : (w : List ℕ) (x y : ℕ) → y < x → getD (trackersTo w (suc x)) y idle ≡ getD (trackersTo w x) y idle
 unfolding trackersTo

@@ -7,6 +7,7 @@ use lib.Dec.{eqb}
 use lib.ListN.{length}
 use Rattle.laws.specs.Choice.{pick}
 use Rattle.tracker.specs.declared.Answer.{Answer}
+use Rattle.tracker.specs.declared.Transfers.{Transfers}
 use Rattle.tracker.specs.Answer.{says}
 use Rattle.rules.specs.State.{zeroState}
 use Rattle.cache.specs.declared.State.{State}
@@ -29,10 +30,10 @@ encode-one s w p q = p ∙ sym q
 pub number-of-one : (answer : Answer) {r s : ℕ} → r ≡ numberOf (says answer) → s ≡ numberOf (says answer) → r ≡ s
 number-of-one answer p q = p ∙ sym q
 
-pub put-said-one : (answer : Answer) (w : List ℕ) {a b : List ℕ}
-    → a ≡ pick (eqb (length w) answerWords) (saidCoded (says answer)) w → b ≡ pick (eqb (length w) answerWords) (saidCoded (says answer)) w → a ≡ b
-put-said-one answer w p q = p ∙ sym q
+pub put-said-one : (answer : Answer) (t : Transfers) (w : List ℕ) {a b : List ℕ}
+    → a ≡ pick (eqb (length w) answerWords) (saidCoded (says answer) t) w → b ≡ pick (eqb (length w) answerWords) (saidCoded (says answer) t) w → a ≡ b
+put-said-one answer t w p q = p ∙ sym q
 
-pub put-answer-one : (answer : Answer) (w : List ℕ) {a b : List ℕ}
-    → a ≡ pick (eqb (length w) answerWords) (answerCoded (says answer) w) w → b ≡ pick (eqb (length w) answerWords) (answerCoded (says answer) w) w → a ≡ b
-put-answer-one answer w p q = p ∙ sym q
+pub put-answer-one : (answer : Answer) (t : Transfers) (w : List ℕ) {a b : List ℕ}
+    → a ≡ pick (eqb (length w) answerWords) (answerCoded (says answer) t w) w → b ≡ pick (eqb (length w) answerWords) (answerCoded (says answer) t w) w → a ≡ b
+put-answer-one answer t w p q = p ∙ sym q

@@ -1,4 +1,4 @@
--- The trackers' words: one tracker's after the other's, each six.
+-- The trackers' words: one tracker's after the other's, each eight.
 use mathlib.Core.Path.{_≡_, refl, ap, sym, _∙_}
 use mathlib.Core.List.{List, [], _∷_, _++_, append-assoc, append-nil}
 use mathlib.Core.Bool.{Bool, true, false}
@@ -57,11 +57,11 @@ one-eqb zero h = refl
 one-eqb (suc zero) h = refl
 one-eqb (suc (suc k)) h = absurd (omega arith)
 
-pub length-tracker : (t : Tracker) → length (trackerCoded t) ≡ 6
+pub length-tracker : (t : Tracker) → length (trackerCoded t) ≡ 8
 unfolding trackerCoded
 length-tracker t = refl
 
-pub length-trackers : (ts : List Tracker) → length (trackersCoded ts) ≡ 6 * length ts
+pub length-trackers : (ts : List Tracker) → length (trackersCoded ts) ≡ 8 * length ts
 unfolding trackersCoded
 length-trackers [] = refl
 length-trackers (t ∷ ts) = omega (arith, length-append (trackerCoded t) (trackersCoded ts), length-tracker t, length-trackers ts)
@@ -87,12 +87,14 @@ pub trackerIn-coded : (q r : List ℕ) (t : Tracker) → trackerIn (q ++ (tracke
 unfolding trackerIn trackerCoded
 trackerIn-coded q r t =
     rw (
-      getD-append-seam q (phaseNumber (t .phase)) (one (t .write) ∷ one (t .bottom) ∷ t .group ∷ t .value ∷ t .turns ∷ r) 0,
-      getD-append-add q (phaseNumber (t .phase) ∷ one (t .write) ∷ one (t .bottom) ∷ t .group ∷ t .value ∷ t .turns ∷ r) 1 0,
-      getD-append-add q (phaseNumber (t .phase) ∷ one (t .write) ∷ one (t .bottom) ∷ t .group ∷ t .value ∷ t .turns ∷ r) 2 0,
-      getD-append-add q (phaseNumber (t .phase) ∷ one (t .write) ∷ one (t .bottom) ∷ t .group ∷ t .value ∷ t .turns ∷ r) 3 0,
-      getD-append-add q (phaseNumber (t .phase) ∷ one (t .write) ∷ one (t .bottom) ∷ t .group ∷ t .value ∷ t .turns ∷ r) 4 0,
-      getD-append-add q (phaseNumber (t .phase) ∷ one (t .write) ∷ one (t .bottom) ∷ t .group ∷ t .value ∷ t .turns ∷ r) 5 0,
+      getD-append-seam q (phaseNumber (t .phase)) (one (t .write) ∷ one (t .bottom) ∷ t .group ∷ t .value ∷ t .turns ∷ t .transfers .fetched ∷ t .transfers .back ∷ r) 0,
+      getD-append-add q (phaseNumber (t .phase) ∷ one (t .write) ∷ one (t .bottom) ∷ t .group ∷ t .value ∷ t .turns ∷ t .transfers .fetched ∷ t .transfers .back ∷ r) 1 0,
+      getD-append-add q (phaseNumber (t .phase) ∷ one (t .write) ∷ one (t .bottom) ∷ t .group ∷ t .value ∷ t .turns ∷ t .transfers .fetched ∷ t .transfers .back ∷ r) 2 0,
+      getD-append-add q (phaseNumber (t .phase) ∷ one (t .write) ∷ one (t .bottom) ∷ t .group ∷ t .value ∷ t .turns ∷ t .transfers .fetched ∷ t .transfers .back ∷ r) 3 0,
+      getD-append-add q (phaseNumber (t .phase) ∷ one (t .write) ∷ one (t .bottom) ∷ t .group ∷ t .value ∷ t .turns ∷ t .transfers .fetched ∷ t .transfers .back ∷ r) 4 0,
+      getD-append-add q (phaseNumber (t .phase) ∷ one (t .write) ∷ one (t .bottom) ∷ t .group ∷ t .value ∷ t .turns ∷ t .transfers .fetched ∷ t .transfers .back ∷ r) 5 0,
+      getD-append-add q (phaseNumber (t .phase) ∷ one (t .write) ∷ one (t .bottom) ∷ t .group ∷ t .value ∷ t .turns ∷ t .transfers .fetched ∷ t .transfers .back ∷ r) 6 0,
+      getD-append-add q (phaseNumber (t .phase) ∷ one (t .write) ∷ one (t .bottom) ∷ t .group ∷ t .value ∷ t .turns ∷ t .transfers .fetched ∷ t .transfers .back ∷ r) 7 0,
       phaseOf-phaseNumber (t .phase),
       eqb-one (t .write),
       eqb-one (t .bottom),

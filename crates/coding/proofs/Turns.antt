@@ -21,6 +21,7 @@ use Rattle.tracker.specs.declared.Tracker.{Tracker}
 use Rattle.tracker.specs.Tracker.{idle}
 use Rattle.rules.specs.State.{State}
 use Rattle.tracker.specs.declared.Answer.{Answer}
+use Rattle.tracker.specs.declared.Transfers.{Transfers}
 use Rattle.tracker.specs.Answer.{says}
 use Rattle.coding.specs.Answer.{numberOf, saidCoded, answerCoded}
 use Rattle.coding.specs.Words.{trackerPlace, stateWords, shapeCoded, coded, phaseOf, trackerCoded, trackersCoded, trackerIn, trackersTo, codesTracker, codesLine, codes}
@@ -61,12 +62,16 @@ pub record Narrow (w : List ℕ) (at : ℕ) : Type 0 where
   pub group : getD w (at + 3) 0 < 4294967296
   pub value : getD w (at + 4) 0 < 4294967296
   pub turns : getD w (at + 5) 0 < 65536
+  pub fetched : getD w (at + 6) 0 < 256
+  pub back : getD w (at + 7) 0 < 256
 
 pub narrow : (w : List ℕ) (at : ℕ) → codesTracker w at ≡ true → Narrow w at
 unfolding codesTracker
 narrow w at h =
-    let a = both-left _ _ h in
-    let b = both-right _ _ h in
+    let six = both-left _ _ h in
+    let two = both-right _ _ h in
+    let a = both-left _ _ six in
+    let b = both-right _ _ six in
     let a' = both-right _ _ a in
     let b' = both-right _ _ b in
     record {
@@ -76,6 +81,8 @@ narrow w at h =
       group = ltb-true _ _ (both-left _ _ b);
       value = ltb-true _ _ (both-left _ _ b');
       turns = ltb-true _ _ (both-right _ _ b');
+      fetched = ltb-true _ _ (both-left _ _ two);
+      back = ltb-true _ _ (both-right _ _ two);
     }
 
 -- words that code a state
@@ -134,35 +141,35 @@ trackers-read w ts x h = rw (drop-of-length-le ts h) (append-nil (trackersTo w x
 pub lines-written : (w ls : List ℕ) (i : ℕ) → length ls ≤ i → splice w 4 (take i ls) ≡ splice w 4 ls
 lines-written w ls i h = ap (splice w 4) (take-all i ls h)
 
-module _ (w : List ℕ) (ts : List Tracker) (e : length w ≡ 116) (k : length ts ≡ 8) (x : ℕ) where
+module _ (w : List ℕ) (ts : List Tracker) (e : length w ≡ 132) (k : length ts ≡ 8) (x : ℕ) where
   pub tracker-written : x < 8
-      → splice (splice w 68 (trackersCoded (take x ts))) (68 + 6 * x) (trackerCoded (getD ts x idle)) ≡ splice w 68 (trackersCoded (take (x + 1) ts))
+      → splice (splice w 68 (trackersCoded (take x ts))) (68 + 8 * x) (trackerCoded (getD ts x idle)) ≡ splice w 68 (trackersCoded (take (x + 1) ts))
   tracker-written h =
-      let q : length (trackersCoded (take x ts)) ≡ 6 * x = length-trackers (take x ts) ∙ ap (λ (n : ℕ). 6 * n) (length-take-le x ts (omega arith)) in
-      splice-then w 68 (trackersCoded (take x ts)) (trackerCoded (getD ts x idle)) (68 + 6 * x) (omega arith) (omega arith)
+      let q : length (trackersCoded (take x ts)) ≡ 8 * x = length-trackers (take x ts) ∙ ap (λ (n : ℕ). 8 * n) (length-take-le x ts (omega arith)) in
+      splice-then w 68 (trackersCoded (take x ts)) (trackerCoded (getD ts x idle)) (68 + 8 * x) (omega arith) (omega arith)
       ∙ ap (splice w 68) (sym (trackers-more ts x (omega arith)))
 
   pub trackers-written : 8 ≤ x → splice w 68 (trackersCoded (take x ts)) ≡ splice w 68 (trackersCoded ts)
   trackers-written h = ap (λ (us : List Tracker). splice w 68 (trackersCoded us)) (take-all x ts (omega arith))
 
 -- an answer's words
-pub said-is : (w : List ℕ) {r : List ℕ} {answer a : Answer} → length w ≡ 6 → answer ≡ a → r ≡ saidCoded (says a)
-    → r ≡ pick (eqb (length w) 6) (saidCoded (says answer)) w
-said-is w e q p = rw (eq-eqb (length w) 6 e, q) p
+pub said-is : (w : List ℕ) (t : Transfers) {r : List ℕ} {answer a : Answer} → length w ≡ 6 → answer ≡ a → r ≡ saidCoded (says a) t
+    → r ≡ pick (eqb (length w) 6) (saidCoded (says answer) t) w
+said-is w t e q p = rw (eq-eqb (length w) 6 e, q) p
 
-pub said-not : (w : List ℕ) (answer : Answer) → (length w ≡ 6 → ⊥) → w ≡ pick (eqb (length w) 6) (saidCoded (says answer)) w
-said-not w answer h = rw (ne-eqb (length w) 6 h)
+pub said-not : (w : List ℕ) (t : Transfers) (answer : Answer) → (length w ≡ 6 → ⊥) → w ≡ pick (eqb (length w) 6) (saidCoded (says answer) t) w
+said-not w t answer h = rw (ne-eqb (length w) 6 h)
 
 -- refused, or not
-module _ (w : List ℕ) (answer : Answer) {c : ℕ} (q : c ≡ numberOf (says answer)) where
-  pub answer-no : 0 < c → w ≡ pick (eqb (length w) 6) (answerCoded (says answer) w) w
+module _ (w : List ℕ) (t : Transfers) (answer : Answer) {c : ℕ} (q : c ≡ numberOf (says answer)) where
+  pub answer-no : 0 < c → w ≡ pick (eqb (length w) 6) (answerCoded (says answer) t w) w
   answer-no h = rw (← q, ne-eqb c 0 (λ z. absurd (omega arith))) (pick-same (eqb (length w) 6))
     where
       pick-same : (b : Bool) → w ≡ pick b w w
       pick-same true = refl
       pick-same false = refl
 
-  pub answer-is : {r : List ℕ} → c ≡ 0 → r ≡ pick (eqb (length w) 6) (saidCoded (says answer)) w → r ≡ pick (eqb (length w) 6) (answerCoded (says answer) w) w
+  pub answer-is : {r : List ℕ} → c ≡ 0 → r ≡ pick (eqb (length w) 6) (saidCoded (says answer) t) w → r ≡ pick (eqb (length w) 6) (answerCoded (says answer) t w) w
   answer-is z p = rw (← q, eq-eqb c 0 z) p
 
 -- a state written part by part is its coding

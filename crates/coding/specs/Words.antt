@@ -13,11 +13,12 @@ use Rattle.tracker.specs.declared.Phase.{Phase}
 use Rattle.tracker.specs.declared.Phase.the-variants.{Idle, Probe, Map, Leaf, Set, Clear}
 use Rattle.tracker.specs.declared.Tracker.{Tracker}
 use Rattle.tracker.specs.Tracker.{mostTurns}
+use Rattle.tracker.specs.Transfers.{mostTransfers}
 use Rattle.rules.specs.State.{State}
 
--- the words of a tracker: its phase, whether it writes, whether it is bottom-up, its group, its value, its turns
+-- the words of a tracker: its phase, whether it writes, whether it is bottom-up, its group, its value, its turns, the blocks fetched for it and written back
 abbrev pub trackerWords : ℕ
-trackerWords = 6
+trackerWords = 8
 
 -- where the lines begin, and tracker x
 abbrev pub linesPlace : ℕ
@@ -43,7 +44,7 @@ abbrev pub phases : ℕ
 phases = 6
 
 unfoldable pub trackerCoded : Tracker → List ℕ
-trackerCoded t = phaseNumber (t .phase) ∷ one (t .write) ∷ one (t .bottom) ∷ t .group ∷ t .value ∷ t .turns ∷ []
+trackerCoded t = phaseNumber (t .phase) ∷ one (t .write) ∷ one (t .bottom) ∷ t .group ∷ t .value ∷ t .turns ∷ t .transfers .fetched ∷ t .transfers .back ∷ []
 
 unfoldable pub trackersCoded : List Tracker → List ℕ
 trackersCoded [] = []
@@ -69,6 +70,7 @@ trackerIn w at = record {
   group = getD w (at + 3) 0;
   value = getD w (at + 4) 0;
   turns = getD w (at + 5) 0;
+  transfers = record { fetched = getD w (at + 6) 0; back = getD w (at + 7) 0 };
 }
 
 -- the first x trackers
@@ -91,8 +93,9 @@ decoded w = record {
 -- no word from `at` on is too wide for its field of a tracker
 unfoldable pub codesTracker : List ℕ → ℕ → Bool
 codesTracker w at =
-    both (both (ltb (getD w at 0) phases) (both (ltb (getD w (at + 1) 0) 2) (ltb (getD w (at + 2) 0) 2)))
-    (both (ltb (getD w (at + 3) 0) values) (both (ltb (getD w (at + 4) 0) values) (ltb (getD w (at + 5) 0) (suc mostTurns))))
+    both (both (both (ltb (getD w at 0) phases) (both (ltb (getD w (at + 1) 0) 2) (ltb (getD w (at + 2) 0) 2)))
+    (both (ltb (getD w (at + 3) 0) values) (both (ltb (getD w (at + 4) 0) values) (ltb (getD w (at + 5) 0) (suc mostTurns)))))
+    (both (ltb (getD w (at + 6) 0) (suc mostTransfers)) (ltb (getD w (at + 7) 0) (suc mostTransfers)))
 
 -- n and T have 32 bits in a state, as a line has; L and the hand have 64, as a word has
 abbrev pub codesShape : List ℕ → Bool

@@ -6,6 +6,7 @@ use geometry::Shape;
 use tracker::Answer;
 use tracker::Phase;
 use tracker::Tracker;
+use tracker::Transfers;
 ghost use mathlib.Core.Path.{_≡_};
 ghost use mathlib.Core.Bool.{true};
 ghost use Prim.Native.Nat.{_+_, _≤_};
@@ -22,7 +23,7 @@ ghost use Rattle.coding.specs.Words.{trackerWords, linesPlace, trackerPl
 ghost use Rattle.coding.specs.Answer.{numberOf, answerWords, answerOf, saidCoded, answerCoded};
 
 // The words of a tracker.
-pub const TRACKER_WORDS: usize = 6;
+pub const TRACKER_WORDS: usize = 8;
 
 // Where the lines begin, and the trackers.
 const LINES: usize = 4;
@@ -30,7 +31,7 @@ const LINES: usize = 4;
 const TRACKERS: usize = 68;
 
 // The words of a state.
-pub const STATE_WORDS: usize = 116;
+pub const STATE_WORDS: usize = 132;
 
 // The words of a step's answer.
 pub const ANSWER_WORDS: usize = 6;
@@ -38,10 +39,12 @@ pub const ANSWER_WORDS: usize = 6;
 // What a refused call gives is this and the refusal.
 pub const REFUSED: u64 = 4294967296;
 
-// A field of a state that has 32 bits is below this, and one that has 16.
+// A field of a state that has 32 bits is below this, one that has 16, and one that has 8.
 const BITS_32: u64 = 4294967296;
 
 const BITS_16: u64 = 65536;
+
+const BITS_8: u64 = 256;
 
 // The phases.
 const PHASES: u64 = 6;
@@ -95,13 +98,16 @@ fn codes_tracker(words: &[u64], at: usize) -> bool
 {
     laws::both(
         laws::both(
-            words[at] < PHASES,
-            laws::both(words[at + 1] < 2, words[at + 2] < 2),
+            laws::both(
+                words[at] < PHASES,
+                laws::both(words[at + 1] < 2, words[at + 2] < 2),
+            ),
+            laws::both(
+                words[at + 3] < BITS_32,
+                laws::both(words[at + 4] < BITS_32, words[at + 5] < BITS_16),
+            ),
         ),
-        laws::both(
-            words[at + 3] < BITS_32,
-            laws::both(words[at + 4] < BITS_32, words[at + 5] < BITS_16),
-        ),
+        laws::both(words[at + 6] < BITS_8, words[at + 7] < BITS_8),
     )
 }
 
@@ -161,6 +167,10 @@ fn tracker_in(words: &[u64], at: usize) -> Tracker
         group: words[at + 3] as u32,
         value: words[at + 4] as u32,
         turns: words[at + 5] as u16,
+        transfers: Transfers {
+            fetched: words[at + 6] as u8,
+            back: words[at + 7] as u8,
+        },
     }
 }
 
@@ -292,6 +302,9 @@ fn put_tracker(words: &mut [u64], at: usize, tracker: Tracker)
     words[at + 3] = tracker.group as u64;
     words[at + 4] = tracker.value as u64;
     words[at + 5] = tracker.turns as u64;
+    let transfers = tracker.transfers;
+    words[at + 6] = transfers.fetched as u64;
+    words[at + 7] = transfers.back as u64;
 }
 
 // The trackers, of which there are eight.
@@ -338,42 +351,42 @@ pub fn number_of(answer: Answer) -> u64
 }
 
 // The words of an answer.
-fn put_words(words: &mut [u64], said: u64, v: u32, k: u16)
+fn put_words(words: &mut [u64], said: u64, v: u32, k: u16, t: Transfers)
     requires { ⌜ length (now words) ≡ answerWords ⌝ }
-    ensures { λ _. ⌜ now (words .exit) ≡ answerOf said v k ⌝ }
+    ensures { λ _. ⌜ now (words .exit) ≡ answerOf said v k t ⌝ }
 {
     words[0] = said;
     words[1] = v as u64;
     words[2] = k as u64;
-    words[3] = 0;
-    words[4] = 0;
+    words[3] = t.fetched as u64;
+    words[4] = t.back as u64;
     words[5] = 0;
 }
 
 // The words become those of what was said, where there are as many as an answer has; else they stay as they came.
-pub fn put_said(answer: Answer, words: &mut [u64])
-    ensures { λ _. ⌜ now (words .exit) ≡ pick (eqb (length (now (words .entry))) answerWords) (saidCoded (says answer)) (now (words .entry)) ⌝ }
+pub fn put_said(answer: Answer, t: Transfers, words: &mut [u64])
+    ensures { λ _. ⌜ now (words .exit) ≡ pick (eqb (length (now (words .entry))) answerWords) (saidCoded (says answer) t) (now (words .entry)) ⌝ }
 {
     if words.len() != ANSWER_WORDS {
         return;
     }
     match answer {
-        Answer::Accepted => put_words(words, 0, 0, 0),
-        Answer::Wait => put_words(words, 1, 0, 0),
-        Answer::Moved => put_words(words, 2, 0, 0),
-        Answer::Read(v, k) => put_words(words, 3, v, k),
-        Answer::Done(k) => put_words(words, 4, 0, k),
-        Answer::Same(k) => put_words(words, 5, 0, k),
-        Answer::No(c) => put_words(words, REFUSED + c as u64, 0, 0),
+        Answer::Accepted => put_words(words, 0, 0, 0, t),
+        Answer::Wait => put_words(words, 1, 0, 0, t),
+        Answer::Moved => put_words(words, 2, 0, 0, t),
+        Answer::Read(v, k) => put_words(words, 3, v, k, t),
+        Answer::Done(k) => put_words(words, 4, 0, k, t),
+        Answer::Same(k) => put_words(words, 5, 0, k, t),
+        Answer::No(c) => put_words(words, REFUSED + c as u64, 0, 0, t),
     }
 }
 
 // The words become those of a step's answer, where there are as many as an answer has; refused, and else, they stay as they came.
-pub fn put_answer(answer: Answer, words: &mut [u64])
-    ensures { λ _. ⌜ now (words .exit) ≡ pick (eqb (length (now (words .entry))) answerWords) (answerCoded (says answer) (now (words .entry))) (now (words .entry)) ⌝ }
+pub fn put_answer(answer: Answer, t: Transfers, words: &mut [u64])
+    ensures { λ _. ⌜ now (words .exit) ≡ pick (eqb (length (now (words .entry))) answerWords) (answerCoded (says answer) t (now (words .entry))) (now (words .entry)) ⌝ }
 {
     if 0 < number_of(answer) {
         return;
     }
-    put_said(answer, words);
+    put_said(answer, t, words);
 }

@@ -37,7 +37,7 @@ module _ (k : Kept) (s : Ready k) where
   drains-at c o (Calls.refused r q z) h = absurd (subst (λ a. IsDrain (event c a)) q h)
   drains-at c o (Calls.issued x access p e is) h = absurd (subst (λ (a : Out). IsDrain (event (issues x access) (a .said))) is h)
   drains-at c o (Calls.stepped x p b) h = let r = step-turn k s x p b in absurd (no-drain x (trackerIn k x) (r .0) (event (steps x) (does k (steps x) .said)) (r .2) h)
-  drains-at c o (Calls.drained lines memory q is) h = q
+  drains-at c o (Calls.drained q is) h = q
 
   drains-idle : (c : Call) → event c (does k c .said) ≡ Event.drained → (x : ℕ) → isIdle (trackerIn k x) ≡ true
   drains-idle c e = all-rest k s (drains-at (bare c) (does k c) (outcome k s c) (subst IsDrain (sym e ∙ event-bare c (does k c .said)) tt))

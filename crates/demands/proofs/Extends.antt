@@ -9,7 +9,7 @@ use lib.ListN.{length}
 use Rattle.laws.proofs.Splice.{lt-or-ge}
 use Rattle.rules.specs.Run.{Call, Kept, kept, does, ended}
 use Rattle.flat.specs.Flat.{Effect, Flat, Given, flatDoes}
-use Rattle.flat.specs.Demand.{found, given}
+use Rattle.flat.specs.Demand.{unseen, given}
 use Rattle.demands.specs.Event.{Told, event}
 use Rattle.demands.specs.Row.{Row, told}
 use Rattle.demands.specs.Demand2.{not-yet, Entry, withEnd, Extends}
@@ -109,7 +109,7 @@ module _ (seen : ℕ → Move) (n : ℕ) (start : Row) where
   onto-run [] f w N k h = onto-same N w
   onto-run (g ∷ hs) f w N k h =
       onto-then N (suc N) w (watchThen N f w g) (watched (suc N) (flatThen f g) (watchThen N f w g) hs) (omega arith)
-      (watch-onto N (f .row) w (flatDoes f (g .found) (g .call) .effect) (moveOf (event (g .call) (flatDoes f (g .found) (g .call) .said))) (open-of N f w k))
+      (watch-onto N (f .row) w (flatDoes f (g .unseen) (g .call) .effect) (moveOf (event (g .call) (flatDoes f (g .unseen) (g .call) .said))) (open-of N f w k))
       (onto-run hs (flatThen f g) (watchThen N f w g) (suc N) (linked-then seen n start N f w g hs k h) (history-then seen n start N f g hs h))
 
   pub onto-after : (gs hs : List Given) (f : Flat) (w : Watch) (N : ℕ) → Linked seen n start N f w → History seen N f (gs ++ hs)
@@ -125,4 +125,4 @@ module _ (seen : ℕ → Move) (n : ℕ) (start : Row) where
 pub given-then : (cs ds : List Call) (k : Kept) → given k (cs ++ ds) ≡ given k cs ++ given (ended k cs) ds
 unfolding given ended
 given-then [] ds k = refl
-given-then (c ∷ cs) ds k = ap (λ (r : List Given). record { call = c; found = found k c } ∷ r) (given-then cs ds (kept (does k c)))
+given-then (c ∷ cs) ds k = ap (λ (r : List Given). record { call = c; unseen = unseen k c } ∷ r) (given-then cs ds (kept (does k c)))

@@ -35,7 +35,7 @@ call-count k s c = at (bare c) (does k c) (outcome k s c)
     at c' o (Calls.refused r q z) = ap (λ (a : Kept). a .state .shape .t) z
     at c' o (Calls.issued x access h e is) = ap (λ (a : Out). a .state .shape .t) is
     at c' o (Calls.stepped x h b) = step-turn k s x h b .1 .count
-    at c' o (Calls.drained lines memory q is) = ap (λ (a : Out). a .state .shape .t) is
+    at c' o (Calls.drained q is) = ap (λ (a : Out). a .state .shape .t) is
 
 pub run-count : (k : Kept) (notes : ℕ → Note) → Noted k notes → (cs : List Call) → ended k cs .state .shape .t ≡ k .state .shape .t
 unfolding ended
@@ -160,7 +160,7 @@ module _ (t : ℕ) (o : Order t) where
         let e : x ≡ o .tracker i = turn-tracker x (o .tracker i) (trackerIn k x) (r .0) (event (steps x) (does k (steps x) .said)) (r .2) h in
         subst (λ (y : ℕ). Going (kept (does k (steps y))) (next t i) (noted (event (steps y) (does k (steps y) .said)) notes)) (sym e)
         (going-step (subst (λ (y : ℕ). isIdle (trackerIn k y) ≡ false) e b))
-    going-turned-at c o' (Calls.drained lines memory q is) h = absurd (subst (λ (a : Out). TurnOf (o .tracker i) (event drains (a .said))) is h)
+    going-turned-at c o' (Calls.drained q is) h = absurd (subst (λ (a : Out). TurnOf (o .tracker i) (event drains (a .said))) is h)
 
     pub going-turned : (c : Call) → TurnOf (o .tracker i) (event c (does k c .said)) → Going (kept (does k c)) (next t i) (noted (event c (does k c .said)) notes)
     going-turned c h =
@@ -203,7 +203,7 @@ module _ (t : ℕ) (o : Order t) where
             at (no ne) = rw (becomes-other notes x y (busy (access .write) (access .bottom) 0) ne, becomes-other (G .given) x y 0 ne, becomes-other (G .under) x y true ne) (G .marked y)
     between-at c o' (Calls.stepped x h b) f =
         let r = step-turn k (G .is-noted .ready) x h b in absurd (no-turn x (r .0) (event (steps x) (does k (steps x) .said)) (r .2) f)
-    between-at c o' (Calls.drained lines memory q is) f =
+    between-at c o' (Calls.drained q is) f =
         let a : does k drains .said ≡ ok = ap (λ (a : Out). a .said) is in
         rw a (record { given' = G .given; under' = G .under; circle' = Circle.drained (G .circle) a; marked' = G .marked; stays-busy = λ x b. refl })
 

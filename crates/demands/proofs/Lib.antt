@@ -13,6 +13,7 @@ pub mod Demand2
 pub mod Image
 pub mod Runs
 pub mod OneGroup
+pub mod Transfers
 pub mod Reached
 pub mod Worked
 pub mod Replay

@@ -17,14 +17,15 @@ use Rattle.laws.proofs.Choice.{not-both-ways, pick-by}
 use Rattle.geometry.specs.TagMemory.{leafOf, groups}
 use Rattle.tracker.specs.declared.Phase.{Phase}
 use Rattle.tracker.specs.declared.Phase.the-variants.{Idle, Probe, Map, Leaf, Set, Clear}
+use Rattle.tracker.specs.declared.Transfers.{Transfers}
 use Rattle.tracker.specs.declared.Tracker.{Tracker}
-use Rattle.tracker.specs.Tracker.{idle, isIdle, isIdleAt, atFinish, issued, firstPhase, goesTo, counted}
+use Rattle.tracker.specs.Tracker.{idle, isIdle, isIdleAt, atFinish, issued, firstPhase, at, counted}
 use Rattle.tracker.proofs.Phases.{idle-unfinished}
 use Rattle.tracker.specs.Answer.{Said, ok}
 use Rattle.rules.specs.State.{trackerAt, lengthsRight}
 use Rattle.rules.specs.Run.{Call, issues, steps, drains, lends}
 use Rattle.flat.specs.Flat as flat
-use Rattle.flat.specs.Flat.{tagged, changesNothing, Course, byTags, course, courseOf, says, rowBy, trackerBy, effectBy, Flat, withRow, Given, Reply, flatIssue, flatStep, flatDrain, flatDoes, flatAnswers, flatEnded}
+use Rattle.flat.specs.Flat.{tagged, changesNothing, Course, byTags, course, courseOf, says, rowBy, trackerBy, effectBy, Flat, withRow, Unseen, Given, Reply, flatIssue, flatStep, flatDrain, flatDoes, flatAnswers, flatEnded}
 use Rattle.demands.specs.Event.{Told, event, events, eventAt}
 use Rattle.demands.specs.Row.{Row, after, told}
 use Rattle.demands.specs.Demand2.{Entry}
@@ -166,13 +167,13 @@ module _ (seen : ℕ → Move) (n : ℕ) (start : Row) {N : ℕ} {f : Flat} {w :
     next w' w'' u e v p o h = subst (Linked seen n start (suc N) (withRow f row x t)) (sym e)
         (record { inv = v; fits = fits-set (w' .pend) u p o h; n-is = k .n-is; long = rw (length-set (f .trackers) x t) (k .long) })
 
-  -- a step of tracker x, which is busy, by its course
-  module _ (x : ℕ) (xl : x < f .shape .t) where
+  -- a step of tracker x, which is busy, by its course; v is what the row cannot know of it
+  module _ (x : ℕ) (xl : x < f .shape .t) (v : Unseen) where
     abbrev t : Tracker
     t = trackerAt (f .trackers) x
 
     abbrev after-step : Course → Type 0
-    after-step c = Linked seen n start (suc N) (withRow f (rowBy (f .row) t c) x (trackerBy t c)) (watchBy N (f .row) w (effectBy x t c) (ofStep x (says (f .row) t c)))
+    after-step c = Linked seen n start (suc N) (withRow f (rowBy (f .row) t c) x (trackerBy t (v .transfers) c)) (watchBy N (f .row) w (effectBy x t c) (ofStep x (says (f .row) t c)))
 
     -- its moment is to come
     module _ (i : ℕ) (a : Access) (p : w .pend x ≡ begun i a) (h : ToCome (t .phase)) (m : Named t a) where
@@ -191,21 +192,21 @@ module _ (seen : ℕ → Move) (n : ℕ) (start : Row) {N : ℕ} {f : Flat} {w :
       ended-is : closed N (takenBy N (f .row) w x (w .pend x)) (ofStep x (flat.answer (f .row) t)) ≡ closedBy N w1 x (past (w .count) b)
       ended-is = ap (λ (z : Watch). closed N z (ofStep x (flat.answer (f .row) t))) taken-is ∙ ap (closed N w1) (told-is x (f .row) t a m) ∙ ap (closedBy N w1 x) pend-is
 
-      named-still : (q : Phase) → ToCome q → Fits (goesTo t q) (begun i a)
-      named-still q e = (e, record { write-is = m .write-is; group-is = m .group-is; value-is = m .value-is })
+      named-still : (q : Phase) (s : Transfers) → ToCome q → Fits (at t q s) (begun i a)
+      named-still q s e = (e, record { write-is = m .write-is; group-is = m .group-is; value-is = m .value-is })
 
       by-course : (c : Course) → Sound (f .row) t (t .phase) c → seen N ≡ ofStep x (says (f .row) t c) → after-step c
-      by-course Course.waits s e = next x xl (counted t) (f .row) w w (begun i a) refl (went x (k .inv) (omega arith) e) p (λ y q. refl) (named-still (t .phase) h)
-      by-course (Course.goes q) s e = next x xl (goesTo t q) (f .row) w w (begun i a) refl (went x (k .inv) (omega arith) e) p (λ y q. refl) (named-still q (s .1))
+      by-course Course.waits s e = next x xl (counted t) (f .row) w w (begun i a) refl (went x (k .inv) (omega arith) e) p (λ y q. refl) (named-still (t .phase) (t .transfers) h)
+      by-course (Course.goes q) s e = next x xl (at t q (v .transfers)) (f .row) w w (begun i a) refl (went x (k .inv) (omega arith) e) p (λ y q. refl) (named-still q (v .transfers) (s .1))
       by-course Course.ends s e =
           let told : seen N ≡ ends x b = e ∙ told-is x (f .row) t a m in
-          let v = takes-now seen (groups n) start (k .inv) x i a p (rw told refl) in
-          let v' = ends-now seen (groups n) start v (omega arith) x (w .count) b told pend-is in
-          next x xl idle (flat.after (f .row) t) (closedBy N w1 x (past (w .count) b)) _ none ended-is (on-row (sym (after-is (f .row) t a m)) v')
+          let taken = takes-now seen (groups n) start (k .inv) x i a p (rw told refl) in
+          let over = ends-now seen (groups n) start taken (omega arith) x (w .count) b told pend-is in
+          next x xl idle (flat.after (f .row) t) (closedBy N w1 x (past (w .count) b)) _ none ended-is (on-row (sym (after-is (f .row) t a m)) over)
           (put-same (w1 .pend) x none x refl) (λ y q. put-other (w1 .pend) x none y q ∙ put-other (w .pend) x (past (w .count) b) y q) refl
       by-course (Course.takes q) s e =
-          let v = went x (takes-now seen (groups n) start (k .inv) x i a p (rw e refl)) (omega arith) e in
-          next x xl (goesTo t q) (flat.after (f .row) t) w1 _ (past (w .count) b) taken-is (on-row (sym (after-is (f .row) t a m)) v)
+          let taken = went x (takes-now seen (groups n) start (k .inv) x i a p (rw e refl)) (omega arith) e in
+          next x xl (at t q (v .transfers)) (flat.after (f .row) t) w1 _ (past (w .count) b) taken-is (on-row (sym (after-is (f .row) t a m)) taken)
           pend-is (λ y q. put-other (w .pend) x (past (w .count) b) y q) (s .1, done-is (f .row) t a m (s .2))
       by-course Course.finishes s e = absurd (not-both-ways s (h .1))
 
@@ -225,47 +226,48 @@ module _ (seen : ℕ → Move) (n : ℕ) (start : Row) {N : ℕ} {f : Flat} {w :
     by-pending (begun i a) p h b c s e = by-course i a p (h .0) (h .1) c s e
     by-pending (past q d) p h b c s e = by-finish q d p (h .0) (h .1) c s e
 
-    stepped : (found : Bool) → isIdle t ≡ false → seen N ≡ ofStep x (says (f .row) t (courseOf f found x)) → after-step (courseOf f found x)
-    stepped found b e = by-pending (w .pend x) refl (k .fits x) b (courseOf f found x) (sound (f .row) found _ t (t .phase) b) e
+    stepped : isIdle t ≡ false → seen N ≡ ofStep x (says (f .row) t (courseOf f (v .found) x)) → after-step (courseOf f (v .found) x)
+    stepped b e = by-pending (w .pend x) refl (k .fits x) b (courseOf f (v .found) x) (sound (f .row) (v .found) _ t (t .phase) b) e
 
-    -- an issue to tracker x, which is idle
-    begin : (a : Access) → isIdle t ≡ true → a .group < groups n → seen N ≡ begins x a → Linked seen n start (suc N) (withRow f (f .row) x (issued a)) (closed N w (begins x a))
+  -- an issue to tracker x, which is idle
+  module _ (x : ℕ) (xl : x < f .shape .t) where
+    begin : (a : Access) → isIdle (trackerAt (f .trackers) x) ≡ true → a .group < groups n → seen N ≡ begins x a → Linked seen n start (suc N) (withRow f (f .row) x (issued a)) (closed N w (begins x a))
     begin a h l e =
         next x xl (issued a) (f .row) (closed N w (begins x a)) _ (begun N a) refl
-        (begins-now seen (groups n) start (k .inv) (omega arith) x a e l (idle-none t (w .pend x) (k .fits x) h))
+        (begins-now seen (groups n) start (k .inv) (omega arith) x a e l (idle-none (trackerAt (f .trackers) x) (w .pend x) (k .fits x) h))
         (put-same (w .pend) x (begun N a) x refl) (λ y q. put-other (w .pend) x (begun N a) y q)
         (first-to-come (a .bottom), record { write-is = refl; group-is = refl; value-is = refl })
 
   abbrev Next : Call → Reply → Type 0
   Next c r = seen N ≡ moveOf (event c (r .said)) → Linked seen n start (suc N) (r .flat) (watchBy N (f .row) w (r .effect) (moveOf (event c (r .said))))
 
-  one-issue : (found : Bool) (x : ℕ) (a : Access) → Next (issues x a) (flatDoes f found (issues x a))
+  one-issue : (v : Unseen) (x : ℕ) (a : Access) → Next (issues x a) (flatDoes f v (issues x a))
   unfolding flatDoes flatIssue
-  one-issue found x a = unless-by _ _ (Next (issues x a))
+  one-issue v x a = unless-by _ _ (Next (issues x a))
       (λ q e. let h = refusal-hold (issueTests (f .shape) x a (f .trackers)) refl q in
       begin x (ltb-true _ _ (h .0)) a (h .1 .1 .0) (subst (λ (z : ℕ). a .group < groups z) (k .n-is) (ltb-true _ _ (h .1 .0))) e) (λ _ e. nothing e)
 
-  one-step : (found : Bool) (x : ℕ) → Next (steps x) (flatDoes f found (steps x))
+  one-step : (v : Unseen) (x : ℕ) → Next (steps x) (flatDoes f v (steps x))
   unfolding flatDoes flatStep
-  one-step found x = unless-by _ _ (Next (steps x))
-      (λ q e. let h = refusal-hold (stepTests (f .shape) x (f .trackers)) refl q in stepped x (ltb-true _ _ (h .0)) found (not-true _ (h .1 .0)) e) (λ _ e. nothing e)
+  one-step v x = unless-by _ _ (Next (steps x))
+      (λ q e. let h = refusal-hold (stepTests (f .shape) x (f .trackers)) refl q in stepped x (ltb-true _ _ (h .0)) v (not-true _ (h .1 .0)) e) (λ _ e. nothing e)
 
-  one-drain : (found : Bool) → Next drains (flatDoes f found drains)
+  one-drain : (v : Unseen) → Next drains (flatDoes f v drains)
   unfolding flatDoes flatDrain
-  one-drain found = unless-by _ _ (Next drains) (λ _ e. nothing e) (λ _ e. nothing e)
+  one-drain v = unless-by _ _ (Next drains) (λ _ e. nothing e) (λ _ e. nothing e)
 
-  one-lent : (found : Bool) (b m : List ℕ) (c : Call) → Next c (flatDoes f found c) → Next (lends b m c) (flatDoes f found (lends b m c))
+  one-lent : (v : Unseen) (b m : List ℕ) (c : Call) → Next c (flatDoes f v c) → Next (lends b m c) (flatDoes f v (lends b m c))
   unfolding flatDoes
-  one-lent found b m c h = pick-by (Next (lends b m c)) (lengthsRight (f .shape) b m) (λ _ e. by-said (flatDoes f found c) h e) (λ _ e. nothing e)
+  one-lent v b m c h = pick-by (Next (lends b m c)) (lengthsRight (f .shape) b m) (λ _ e. by-said (flatDoes f v c) h e) (λ _ e. nothing e)
     where
       by-said : (r : Reply) → Next c r → Next (lends b m c) r
       by-said r h e = subst (λ (z : Move). Linked seen n start (suc N) (r .flat) (watchBy N (f .row) w (r .effect) z)) (sym (lent-move (r .said) b m c)) (h (e ∙ lent-move (r .said) b m c))
 
-  pub one : (found : Bool) (c : Call) → Next c (flatDoes f found c)
-  one found (issues x a) = one-issue found x a
-  one found (steps x) = one-step found x
-  one found drains = one-drain found
-  one found (lends b m c) = one-lent found b m c (one found c)
+  pub one : (v : Unseen) (c : Call) → Next c (flatDoes f v c)
+  one v (issues x a) = one-issue v x a
+  one v (steps x) = one-step v x
+  one v drains = one-drain v
+  one v (lends b m c) = one-lent v b m c (one v c)
 
 abbrev pub callsOf : List Given → List Call
 callsOf [] = []
@@ -273,10 +275,10 @@ callsOf (g ∷ gs) = g .call ∷ callsOf gs
 
 -- the machine, and the log, after one of them
 abbrev pub flatThen : Flat → Given → Flat
-flatThen f g = flatDoes f (g .found) (g .call) .flat
+flatThen f g = flatDoes f (g .unseen) (g .call) .flat
 
 abbrev pub watchThen : ℕ → Flat → Watch → Given → Watch
-watchThen N f w g = watchBy N (f .row) w (flatDoes f (g .found) (g .call) .effect) (moveOf (event (g .call) (flatDoes f (g .found) (g .call) .said)))
+watchThen N f w g = watchBy N (f .row) w (flatDoes f (g .unseen) (g .call) .effect) (moveOf (event (g .call) (flatDoes f (g .unseen) (g .call) .said)))
 
 -- the calls gs of the machine f are the history from call N on
 abbrev pub History : (ℕ → Move) → ℕ → Flat → List Given → Type 0
@@ -290,7 +292,7 @@ module _ (seen : ℕ → Move) (n : ℕ) (start : Row) where
   pub linked-then : (N : ℕ) (f : Flat) (w : Watch) (g : Given) (gs : List Given) → Linked seen n start N f w → History seen N f (g ∷ gs)
       → Linked seen n start (suc N) (flatThen f g) (watchThen N f w g)
   unfolding flatAnswers events
-  linked-then N f w g gs k h = one seen n start k (g .found) (g .call) (let z : N ≡ N + 0 = omega arith in ap seen z ∙ h 0 (omega arith))
+  linked-then N f w g gs k h = one seen n start k (g .unseen) (g .call) (let z : N ≡ N + 0 = omega arith in ap seen z ∙ h 0 (omega arith))
 
   -- a whole run
   pub linked : (gs : List Given) (f : Flat) (w : Watch) (N : ℕ) → Linked seen n start N f w → History seen N f gs → Linked seen n start (N + length gs) (flatEnded f gs) (watched N f w gs)

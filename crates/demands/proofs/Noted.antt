@@ -190,7 +190,7 @@ module _ (k : Kept) (notes : ℕ → Note) (K : Noted k notes) where
       (rw (becomes-same notes x (busy (access .write) (access .bottom) 0)) (record { is-busy = first-busy (access .bottom); write-is = refl; bottom-is = refl; counts = omega arith }))
       (λ y ne. rw (becomes-other notes x y (busy (access .write) (access .bottom) 0) ne) (K .is-so y)))
   noted-at c o (Calls.stepped x h b) = let r = step-turn k (K .ready) x h b in noted-turn x (r .0) (kept o) (event (steps x) (o .said)) b (r .1) (r .2)
-  noted-at c o (Calls.drained lines memory q is) = rw is (K .is-so)
+  noted-at c o (Calls.drained q is) = rw is (K .is-so)
 
   pub noted-call : (c : Call) → Noted (kept (does k c)) (noted (event c (does k c .said)) notes)
   noted-call c = record {

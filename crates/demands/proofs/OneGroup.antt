@@ -91,7 +91,7 @@ module _ (k : Kept) (s : Ready k) (a : Alone k) where
   alone-at c o (Calls.issued x access h e is) = alone-issued x access (none-met x access (ap (λ (d : Out). d .said) is)) (kept o)
       (anew k (kept o) x (Tracker.issued access) s h (ap (λ (d : Out). d .state .shape .n) is) (ap (λ (d : Out). d .state .shape .t) is) (ap (λ (d : Out). d .state .trackers) is))
   alone-at c o (Calls.stepped x h b) = let r = step-turn k s x h b in alone-turn x (r .0) (kept o) (event (steps x) (o .said)) b (r .1) (r .2)
-  alone-at c o (Calls.drained lines memory q is) = rw is a
+  alone-at c o (Calls.drained q is) = rw is a
 
 -- a run
 alone-run : (cs : List Call) (k : Kept) → Ready k → Alone k → Alone (Run.ended k cs)

@@ -178,7 +178,7 @@ module _ (k : Kept) (row : Row) (a : Ok k row) (w : Bool) (Q : w ≡ false → Q
   quiet-at c o (Calls.stepped x h b) s' z =
       let r = step-turn k s x h b in
       quiet-turn x (r .0) (kept o) (event (steps x) (o .said)) b (r .1) (r .2) (λ z'. clean-step k x s (Q z' .clean) (Q z' .reads x b)) z
-  quiet-at c o (Calls.drained lines memory q is) s' z = drained-quiet q s'
+  quiet-at c o (Calls.drained q is) s' z = drained-quiet q s'
 
   quiet-call : (c : Call) → Ready (kept (does k c)) → writtenBy (event c (does k c .said)) w ≡ false → Quiet (kept (does k c))
   quiet-call c s' z = quiet-at (bare c) (does k c) (outcome k s c) s' (subst (λ (d : Event). writtenBy d w ≡ false) (event-bare c (does k c .said)) z)

@@ -24,7 +24,7 @@ use Rattle.session.specs.Session.{keptOf}
 use Rattle.script.specs.Script.{Asks, news, reads, writes, steps, drains, bad, spells, isNumeral, isDecimal, isHex, isLetter, isOrder, stepLine, newLine, readLine, writeLine, fields, ofFields, asksFor}
 use Rattle.script.proofs.Laws.{spells-lt}
 use Rattle.play.specs.Play.{Played, follows, goesOn, lineEnd, lineDone, starts, plays}
-use Rattle.play.specs.Lines.{asked, saidBy, leftBy, textOf}
+use Rattle.play.specs.Lines.{asked, saidBy, transfersBy, leftBy, textOf, textBy}
 use Rattle.play.proofs.Texts.{plays-becomes}
 use Rattle.demands.specs.Event.{events}
 use Rattle.demands.specs.Demand2.{OneRow}
@@ -70,20 +70,12 @@ unfolding leftBy
 left-then rule [] ys k = refl
 left-then rule (a ∷ xs) ys k = left-then rule xs ys (kept (rule k a))
 
-said-then : (rule : Kept → Asks → Out) (xs ys : List Asks) (k : Kept) → saidBy rule k (xs ++ ys) ≡ saidBy rule k xs ++ saidBy rule (leftBy rule k xs) ys
-unfolding leftBy saidBy
-said-then rule [] ys k = refl
-said-then rule (a ∷ xs) ys k = ap (λ (r : List Said). rule k a .said ∷ r) (said-then rule xs ys (kept (rule k a)))
-
-length-said : (rule : Kept → Asks → Out) (xs : List Asks) (k : Kept) → length (saidBy rule k xs) ≡ length xs
-unfolding saidBy
-length-said rule [] k = refl
-length-said rule (a ∷ xs) k = ap suc (length-said rule xs (kept (rule k a)))
-
-text-then : (xs ys : List Said) (n m : ℕ) → m ≡ n + length xs → textOf n (xs ++ ys) ≡ textOf n xs ++ textOf m ys
-unfolding textOf
-text-then [] ys n m e = let z : n ≡ m = omega arith in ap (λ (i : ℕ). textOf i ys) z
-text-then (a ∷ xs) ys n m e = ap (λ (r : List ℕ). lineText (n + 1) a ++ r) (text-then xs ys (n + 1) m (omega arith)) ∙ sym (append-assoc (lineText (n + 1) a) _ _)
+text-then : (rule : Kept → Asks → Out) (xs ys : List Asks) (k : Kept) (n m : ℕ) → m ≡ n + length xs → textBy rule n k (xs ++ ys) ≡ textBy rule n k xs ++ textBy rule m (leftBy rule k xs) ys
+unfolding leftBy saidBy transfersBy textOf
+text-then rule [] ys k n m e = let z : n ≡ m = omega arith in ap (λ (i : ℕ). textBy rule i k ys) z
+text-then rule (a ∷ xs) ys k n m e =
+    let line = lineText (n + 1) (rule k a .said) (rule k a .transfers) in
+    ap (λ (r : List ℕ). line ++ r) (text-then rule xs ys (kept (rule k a)) (n + 1) m (omega arith)) ∙ sym (append-assoc line _ _)
 
 -- a value of eight hex digits is a u32
 abbrev Fits : Asks → Type 0
@@ -155,24 +147,23 @@ record Printed (k k' : Kept) (number : ℕ) (lines : List Asks) (text : List ℕ
   fit : Values32 (callsFor lines)
   leaves : k' ≡ leftBy follows k lines
   count : number ≡ 1 + length lines
-  text-is : text ≡ textOf 1 (saidBy follows k lines)
+  text-is : text ≡ textBy follows 1 k lines
 
 module _ (t : ℕ) (k : Kept) (B : Begun t k) where
   more : (k1 k2 : Kept) (number number2 : ℕ) (lines new : List Asks) (text text2 : List ℕ) → Printed k k1 number lines text → Values32 (callsFor new) → k2 ≡ leftBy follows k1 new
-      → number2 ≡ number + length new → text2 ≡ textOf number (saidBy follows k1 new) → Printed k k2 number2 (lines ++ new) (text ++ text2)
+      → number2 ≡ number + length new → text2 ≡ textBy follows number k1 new → Printed k k2 number2 (lines ++ new) (text ++ text2)
   more k1 k2 number number2 lines new text text2 P v l c e = record {
     fit = rw (calls-then lines new) (values-then (callsFor lines) (callsFor new) (P .fit) v);
     leaves = l ∙ ap (λ (z : Kept). leftBy follows z new) (P .leaves) ∙ sym (left-then follows lines new k);
     count = omega (arith, P .count, c, length-append lines new);
     text-is =
-        ap (λ (r : List ℕ). r ++ text2) (P .text-is) ∙ ap (λ (r : List ℕ). textOf 1 (saidBy follows k lines) ++ r) (e ∙ ap (λ (z : Kept). textOf number (saidBy follows z new)) (P .leaves))
-        ∙ sym (text-then (saidBy follows k lines) (saidBy follows (leftBy follows k lines) new) 1 number (omega (arith, P .count, length-said follows lines k)))
-        ∙ ap (textOf 1) (sym (said-then follows lines new k));
+        ap (λ (r : List ℕ). r ++ text2) (P .text-is) ∙ ap (λ (r : List ℕ). textBy follows 1 k lines ++ r) (e ∙ ap (λ (z : Kept). textBy follows number z new) (P .leaves))
+        ∙ sym (text-then follows lines new k 1 number (P .count));
   }
 
   printed : {s0 s : State} {b0 m0 b m : List ℕ} {number : ℕ} {lines : List Asks} {text : List ℕ} → keptOf s0 b0 m0 ≡ k → Replays s0 b0 m0 s b m number lines text
       → Printed k (keptOf s b m) number lines text
-  unfolding leftBy callsFor saidBy textOf
+  unfolding leftBy callsFor saidBy transfersBy textOf
   printed e begun = record { fit = tt; leaves = e; count = refl; text-is = refl }
   printed e (chunk {s = s} {b = b} {m = m} {number = number} {lines = lines} {text = text} p input output output' b' m' r d) =
       let P = printed e p in
@@ -184,7 +175,7 @@ module _ (t : ℕ) (k : Kept) (B : Begun t k) where
       let new = asked follows (length input) input (starts k1 number output) in
       more k1 (keptOf (r .state) b' m') number (r .number) lines new text (take (r .written) output') P (asked-fit follows (length input) input (starts k1 number output))
       (ap (λ (z : Played). z .kept) d ∙ Z .kept) (ap (λ (z : Played). z .number) d ∙ Z .number)
-      (ap (λ (z : Played). take (z .written) (z .output)) d ∙ in-front (plays k1 number input output) output (textOf number (saidBy follows k1 new)) (Z .written) (Z .output))
+      (ap (λ (z : Played). take (z .written) (z .output)) d ∙ in-front (plays k1 number input output) output (textBy follows number k1 new) (Z .written) (Z .output))
 
 pub replay-prints : ReplayPrints
 replay-prints t s s' b m b' m' number lines text start p =
@@ -193,7 +184,7 @@ replay-prints t s s' b m b' m' number lines text start p =
     let P = printed t k B refl p in (
       answers k (callsFor lines),
       logOf (logged k (callsFor lines)),
-      P .text-is ∙ ap (textOf 1) (says-run lines k),
+      P .text-is ∙ ap (λ (said : List Said). textOf 1 said (transfersBy follows k lines)) (says-run lines k),
       subst (λ (z : Kept). OneRow (s .shape .n) m (events (callsFor lines) (answers k (callsFor lines))) (z .memory) (logOf (logged k (callsFor lines)))) (sym (P .leaves ∙ leaves-run lines k))
           (one-row t k B (callsFor lines) (P .fit)),
     )

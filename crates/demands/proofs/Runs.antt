@@ -39,10 +39,10 @@ says-answer (same k) = refl
 says-answer (Answers.no c) = refl
 
 abbrev outOf : calls.Out → Out
-outOf o = record { state = stateOf (o .state); answer = answerOf (o .said) }
+outOf o = record { state = stateOf (o .state); answer = answerOf (o .said); transfers = o .transfers }
 
 did-out : (o : calls.Out) (b m : List ℕ) → o .bytes ≡ b → o .memory ≡ m → did (outOf o) b m ≡ o
-did-out o b m p q = λ i. record { said = says-answer (o .said) i; state = o .state; bytes = sym p i; memory = sym q i }
+did-out o b m p q = λ i. record { said = says-answer (o .said) i; state = o .state; bytes = sym p i; memory = sym q i; transfers = o .transfers }
 
 -- what an issue and a drain leave
 issue-bytes : (s : rules.State) (b m : List ℕ) (x : ℕ) (access : Access) → issue s b m x access .bytes ≡ b

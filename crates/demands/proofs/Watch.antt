@@ -46,8 +46,8 @@ watchBy n row w es e = closed n (taken n row w es) e
 
 unfoldable pub watched : ℕ → Flat → Watch → List Given → Watch
 watched n f w [] = w
-watched n f w (g ∷ gs) = watched (suc n) (flatDoes f (g .found) (g .call) .flat)
-    (watchBy n (f .row) w (flatDoes f (g .found) (g .call) .effect) (moveOf (event (g .call) (flatDoes f (g .found) (g .call) .said)))) gs
+watched n f w (g ∷ gs) = watched (suc n) (flatDoes f (g .unseen) (g .call) .flat)
+    (watchBy n (f .row) w (flatDoes f (g .unseen) (g .call) .effect) (moveOf (event (g .call) (flatDoes f (g .unseen) (g .call) .said)))) gs
 
 abbrev pub nothingYet : Watch
 nothingYet = record {

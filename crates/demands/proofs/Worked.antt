@@ -20,17 +20,21 @@ use Rattle.line.specs.Word.{used, blockOf, changed, holder, held, has, word, he
 use Rattle.line.specs.Find.{lineOf, lowestFree, looseFrom, victim, after}
 use Rattle.rules.specs.State.{lengthsRight}
 use Rattle.rules.specs.Whole.{limits, holds, lineWhole, trackerWhole, whole}
-use Rattle.rules.specs.Place.{rowsFit, placeLine, placeHand, writtenBack, placeMemory, bringIn, drained}
+use Rattle.rules.specs.Copies.{fetch, back, fetches, backs, tally}
+use Rattle.rules.specs.Copied.{createCopies, copies}
+use Rattle.rules.specs.Place.{rowsFit, placeLine, placeHand, writtenBack, backOf, placeMemory, placeCopies, bringIn, bringCopies, drained, drainCopies}
 use Rattle.rules.specs.Step.{probe, onMap, map, leafRead, putIn, writeUnder1, writeUnder0, leafWrite, finish, inLine, fit, turnOf}
 use Rattle.rules.specs.Calls.{fresh, meets, meetsNone, issueNo, issue, stepNo, step, allIdle, drainNo, drain}
 use Rattle.rules.specs.Run.{Call, issues, steps, drains, Kept, kept, does, answers, ended}
 use Rattle.flat.specs.Flat.{tagged, someHolds, flatIssue, flatStep, flatDrain, flatDoes, flatAnswers, flatEnded}
-use Rattle.flat.specs.Demand.{found, given}
+use Rattle.flat.specs.Demand.{unseen, given}
 use Rattle.demands.specs.Event.{events, busyFrom, busyAfter, writtenFrom}
 use Rattle.demands.specs.Demand2.{at, Entry, Log, OneRow}
+use Rattle.demands.specs.Transfers.{madeFrom, made, OfSession}
 use Rattle.demands.proofs.Log.{put, more}
 use Rattle.demands.proofs.Watch.{watched, logged}
 use Rattle.demands.proofs.Demand2.{demand-2}
+use Rattle.demands.proofs.Transfers.{transfers-are-copies}
 use Rattle.demands.proofs.Runs.{stateOf, answersOf, AllPlain, session-of, fresh-starts}
 use Rattle.session.specs.Session.{said}
 use native.Mathlib.Omega.{arith}
@@ -65,10 +69,12 @@ pub record Worked : Type 0 where
   pub idle : (busyAfter (events calls (answers begun calls)) 0 ≡ false) × (busyAfter (events calls (answers begun calls)) 1 ≡ false)
   pub clean : writtenFrom false (events calls (answers begun calls)) ≡ false
   pub shows : plainReading 4 (ended begun calls .memory) 17 ≡ 10
+  -- the copies made for the last access of each tracker: a leaf is fetched where another, changed, is written back; the map block is in its line
+  pub copied : (made begun calls 0 ≡ back 3 ∷ fetch 2 ∷ []) × (made begun calls 1 ≡ back 2 ∷ fetch 1 ∷ [])
 
 pub worked : Worked
-unfolding both either implies no refusal unless leafOf byteOf groups mapBlockOf mapByteOf mapBitOf mapBlocks part splice fits putW value bytes numberAt first all bitOf withBit inLimits bitAt putBit allZero blockOr0 leafBit plainGroup plainReading trueAt isTrue clearedMap used blockOf changed holder held has word heldBy cleaned lineOf lowestFree looseFrom victim after lengthsRight limits holds lineWhole trackerWhole whole rowsFit placeLine placeHand writtenBack placeMemory bringIn drained probe onMap map leafRead putIn writeUnder1 writeUnder0 leafWrite finish inLine fit turnOf fresh meets meetsNone issueNo issue stepNo step allIdle drainNo drain does answers ended tagged someHolds flatIssue flatStep flatDrain flatDoes flatAnswers flatEnded found given watched put more events busyFrom writtenFrom
-worked = record { accepted = refl; count = refl; log = refl; idle = (refl, refl); clean = refl; shows = refl }
+unfolding both either implies no refusal unless leafOf byteOf groups mapBlockOf mapByteOf mapBitOf mapBlocks part splice fits putW value bytes numberAt first all bitOf withBit inLimits bitAt putBit allZero blockOr0 leafBit plainGroup plainReading trueAt isTrue clearedMap used blockOf changed holder held has word heldBy cleaned lineOf lowestFree looseFrom victim after lengthsRight limits holds lineWhole trackerWhole whole rowsFit placeLine placeHand fetches backs tally writtenBack backOf placeMemory placeCopies bringIn drained drainCopies probe onMap map leafRead putIn writeUnder1 writeUnder0 leafWrite finish inLine fit turnOf fresh meets meetsNone issueNo issue stepNo step allIdle drainNo drain does answers ended tagged someHolds flatIssue flatStep flatDrain flatDoes flatAnswers flatEnded unseen given watched put more events busyFrom writtenFrom bringCopies createCopies copies madeFrom
+worked = record { accepted = refl; count = refl; log = refl; idle = (refl, refl); clean = refl; shows = refl; copied = (refl, refl) }
 
 -- it is a session of the code, and the theorem speaks of it
 plain : AllPlain calls
@@ -79,3 +85,8 @@ unfolding fresh unless refusal limits both inLimits lengthsRight mapBlocks
 instance =
     let d = demand-2 2 (stateOf (begun .state)) (begun .bytes) (begun .memory) (fresh-starts 4 2 3 (replicate 192 7) (replicate 320 9) refl refl) in
     (d .0 calls, d .1 _ _ _ calls _ (session-of begun calls plain))
+
+pub instance-transfers : OfSession (made begun calls) (stateOf (ended begun calls .state)) (ended begun calls .bytes) (ended begun calls .memory)
+unfolding fresh unless refusal limits both inLimits lengthsRight mapBlocks
+instance-transfers =
+    transfers-are-copies 2 (stateOf (begun .state)) _ (begun .bytes) (begun .memory) _ _ calls _ (fresh-starts 4 2 3 (replicate 192 7) (replicate 320 9) refl refl) (session-of begun calls plain)

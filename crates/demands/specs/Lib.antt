@@ -6,5 +6,6 @@ pub mod Circle
 pub mod Demand3
 pub mod Reached
 pub mod OneGroup
+pub mod Transfers
 pub mod Replay
 pub mod Demand1

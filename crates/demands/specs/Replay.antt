@@ -1,4 +1,4 @@
--- Replay prints the flat row's answers: what it prints after line 1 are the texts of what the calls of one run said, and that run is one of demand 2's.
+-- Replay prints the flat row's answers: what it prints after line 1 are the texts of what the calls of one run said, with their transfers, and that run is one of demand 2's.
 use mathlib.Core.Path.{_≡_}
 use mathlib.Core.List.{List, [], _∷_, _++_}
 use Prim.Native.Nat.{ℕ}
@@ -12,7 +12,7 @@ use Rattle.session.specs.Session.{Starts, keptOf}
 use Rattle.script.specs.Script.{Asks, news, reads, writes, steps, drains, bad}
 use Rattle.play.specs.declared.Played.{Played}
 use Rattle.play.specs.Play.{follows, starts, plays}
-use Rattle.play.specs.Lines.{asked, textOf}
+use Rattle.play.specs.Lines.{asked, transfersBy, textOf}
 use Rattle.play.specs.Seen.{left}
 use Rattle.demands.specs.Event.{events}
 use Rattle.demands.specs.Demand2.{Log, OneRow}
@@ -58,4 +58,4 @@ pub data Replays (s0 : State) (b0 m0 : List ℕ) : State → (b m : List ℕ) (n
 
 abbrev pub ReplayPrints : Type 0
 ReplayPrints = (t : ℕ) (s s' : State) (b m b' m' : List ℕ) (number : ℕ) (lines : List Asks) (text : List ℕ) → Starts t s b m → Replays s b m s' b' m' number lines text
-    → (said : List Said) × (log : Log) × (text ≡ textOf 1 (linesSay lines said)) × OneRow (s .shape .n) m (events (callsFor lines) said) m' log
+    → (said : List Said) × (log : Log) × (text ≡ textOf 1 (linesSay lines said) (transfersBy follows (keptOf s b m) lines)) × OneRow (s .shape .n) m (events (callsFor lines) said) m' log

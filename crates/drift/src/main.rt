@@ -1,5 +1,5 @@
-// drift RECORD REPLAY: compares two outputs of replay line by line and says how far the turn counts drifted.
-// The program reads lines and writes numbers; what a line, a pair of lines and the five numbers are is said by `output` and `measure`.
+// drift RECORD REPLAY: compares two outputs of replay line by line and says how far the turn counts drifted and which transfers differ.
+// The program reads lines and writes numbers; what a line, a pair of lines and the sheet's numbers are is said by `output` and `measure`.
 mod bytes;
 mod report;
 mod side;
@@ -74,11 +74,12 @@ fn compare_place(
     let g = report::say_stray(x, a, record, number, out, f);
     let h = report::say_stray(y, b, replay, number, out, g);
     let i = report::say_drift(p, number, out, h);
+    let j = report::say_transfers(p, number, out, i);
     Walk {
         record: x,
         replay: y,
         tally: next,
-        fill: i,
+        fill: j,
         go: true,
     }
 }

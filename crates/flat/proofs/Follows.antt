@@ -5,7 +5,6 @@ use mathlib.Core.List.{List, []}
 use mathlib.Core.Logic.{_⊎_, inl, inr, ⊎-elim}
 use Prim.Native.Nat.{ℕ, _<_}
 use native.Mathlib.Omega.{arith}
-use lib.Dec.{ltb}
 use lib.ListN.{set}
 use Rattle.laws.specs.Choice.{pick}
 use Rattle.laws.proofs.Choice.{true-or-false}
@@ -13,28 +12,25 @@ use Rattle.laws.specs.Refusal.{refusal, unless}
 use Rattle.laws.proofs.Refusal.{refused-or-not, unless-0, unless-no}
 use Rattle.geometry.specs.declared.Shape.{Shape}
 use Rattle.geometry.specs.Shape.{atHand}
-use Rattle.geometry.specs.TagMemory.{leafOf, values}
+use Rattle.geometry.specs.TagMemory.{values}
 use Rattle.tracker.specs.declared.Access.{Access}
 use Rattle.tracker.specs.declared.Tracker.{Tracker}
 use Rattle.tracker.specs.Tracker.{isIdle, issued, firstPhase}
 use Rattle.tracker.specs.Answer.{ok}
-use Rattle.line.specs.Find.{lineOf}
-use Rattle.rules.specs.State.{State, Rows, trackerAt, lengthsRight}
+use Rattle.rules.specs.State.{State, trackerAt, lengthsRight}
 use Rattle.rules.specs.Whole.{whole}
 use Rattle.rules.specs.Place.{drained}
 use Rattle.rules.specs.Step.{Turned, byPhase}
-use Rattle.rules.specs.Calls.{Out, refused, accepted, withTracker, withLines, issueTests, issueNo, issue, stepped, stepTests, stepNo, step, allIdle, drainNo, drain}
-use Rattle.rules.specs.Run.{Call, issues, steps, drains, lends, Kept, kept, elsewhere, does}
+use Rattle.rules.specs.Calls.{Out, refused, accepted, withTracker, issueTests, issueNo, issue, stepped, stepTests, stepNo, step, allIdle, drainsTo, drainNo, drain}
+use Rattle.rules.specs.Run.{Call, issues, steps, drains, lends, Kept, kept, rowsOf, elsewhere, does}
 use Rattle.rules.proofs.Whole.{Whole, whole-facts}
+use Rattle.rules.proofs.Keeps.{tracker-same}
 use Rattle.rules.proofs.Calls.{Sound, lengths-hand, situation, turn-byPhase, step-is, step-sound, step-refused, step-free, issue-refused, issue-accepted, issue-free, issue-kept, drain-is, drain-sound, drain-busy, drains as drains-lined}
-use Rattle.flat.specs.Flat.{Row, Flat, Reply, Course, courseOf, says, rowBy, trackerBy, effectBy, withRow, refuse, flatIssue, flatStep, flatDrain, flatDoes}
-use Rattle.flat.specs.Demand.{found, Value32}
+use Rattle.flat.specs.Flat.{Row, Flat, Unseen, Reply, Course, courseOf, says, rowBy, trackerBy, effectBy, withRow, refuse, flatIssue, flatStep, flatDrain, flatDoes}
+use Rattle.flat.specs.Demand.{found, unseen, Value32}
 use Rattle.flat.proofs.Agrees.{Fits, Agrees, finish-busy, agrees-same, agrees-rows}
 use Rattle.flat.proofs.Steps.{Plays, plays-byPhase}
 use Rattle.flat.proofs.Drains.{drains as drains-same}
-
-abbrev pub rowsOf : Kept → Rows
-rowsOf k = record { lines = k .state .lines; bytes = k .bytes; memory = k .memory }
 
 -- the flat machine with the accesses of k
 abbrev pub flatWith : Kept → Row → Flat
@@ -48,12 +44,12 @@ pub record Ok (k : Kept) (row : Row) : Type 0 where
 
 pub record Follows (k : Kept) (c : Call) (row : Row) : Type 0 where
   pub row' : Row
-  pub said-is : does k c .said ≡ flatDoes (flatWith k row) (found k c) c .said
-  pub flat-is : flatDoes (flatWith k row) (found k c) c .flat ≡ flatWith (kept (does k c)) row'
+  pub said-is : does k c .said ≡ flatDoes (flatWith k row) (unseen k c) c .said
+  pub flat-is : flatDoes (flatWith k row) (unseen k c) c .flat ≡ flatWith (kept (does k c)) row'
   pub ok-still : Ok (kept (does k c)) row'
   pub n-is : does k c .state .shape .n ≡ k .state .shape .n
 
-follows-by : {k : Kept} {c : Call} {row : Row} (o : Out) (p : Reply) (row' : Row) → does k c ≡ o → flatDoes (flatWith k row) (found k c) c ≡ p
+follows-by : {k : Kept} {c : Call} {row : Row} (o : Out) (p : Reply) (row' : Row) → does k c ≡ o → flatDoes (flatWith k row) (unseen k c) c ≡ p
     → o .said ≡ p .said → p .flat ≡ flatWith (kept o) row' → Ok (kept o) row' → o .state .shape .n ≡ k .state .shape .n → Follows k c row
 follows-by {k} {c} {row} o p row' e f s g a n = record {
   row' = row';
@@ -65,7 +61,7 @@ follows-by {k} {c} {row} o p row' e f s g a n = record {
 
 module _ {k : Kept} {row : Row} (a : Ok k row) where
   -- a refusal
-  follows-no : {c : Call} (i : ℕ) → does k c ≡ refused i (k .state) (k .bytes) (k .memory) → flatDoes (flatWith k row) (found k c) c ≡ refuse i (flatWith k row) → Follows k c row
+  follows-no : {c : Call} (i : ℕ) → does k c ≡ refused i (k .state) (k .bytes) (k .memory) → flatDoes (flatWith k row) (unseen k c) c ≡ refuse i (flatWith k row) → Follows k c row
   follows-no i e f = follows-by (refused i (k .state) (k .bytes) (k .memory)) (refuse i (flatWith k row)) row e f refl refl a refl
 
   w : Whole (k .state)
@@ -73,7 +69,7 @@ module _ {k : Kept} {row : Row} (a : Ok k row) where
 
   -- issue
   module _ (x : ℕ) (access : Access) where
-    flat-issue : flatDoes (flatWith k row) (found k (issues x access)) (issues x access) ≡ flatIssue (flatWith k row) x access
+    flat-issue : flatDoes (flatWith k row) (unseen k (issues x access)) (issues x access) ≡ flatIssue (flatWith k row) x access
     unfolding flatDoes
     flat-issue = refl
 
@@ -120,23 +116,27 @@ module _ {k : Kept} {row : Row} (a : Ok k row) where
 
   -- step
   module _ (x : ℕ) where
-    flat-step : flatDoes (flatWith k row) (found k (steps x)) (steps x) ≡ flatStep (flatWith k row) (ltb (lineOf (k .state .lines) (k .state .shape .l) (leafOf (trackerAt (k .state .trackers) x .group))) (k .state .shape .l)) x
-    unfolding flatDoes found
+    -- what the row cannot know of a step that leaves the tracker u'
+    abbrev told : Tracker → Unseen
+    told u' = record { found = found k x; transfers = u' .transfers }
+
+    flat-step : flatDoes (flatWith k row) (unseen k (steps x)) (steps x) ≡ flatStep (flatWith k row) (told (trackerAt (does k (steps x) .state .trackers) x)) x
+    unfolding flatDoes unseen
     flat-step = refl
 
     does-step : does k (steps x) ≡ step (k .state) (k .bytes) (k .memory) x
     unfolding does
     does-step = refl
 
-    module _ (f : Bool) where
+    module _ (v : Unseen) where
       flat-no : 0 < refusal (stepTests (k .state .shape) x (k .state .trackers))
-          → flatStep (flatWith k row) f x ≡ refuse (refusal (stepTests (k .state .shape) x (k .state .trackers))) (flatWith k row)
+          → flatStep (flatWith k row) v x ≡ refuse (refusal (stepTests (k .state .shape) x (k .state .trackers))) (flatWith k row)
       unfolding flatStep
       flat-no h = unless-no _ _ h
 
       flat-turn : refusal (stepTests (k .state .shape) x (k .state .trackers)) ≡ 0
-          → flatStep (flatWith k row) f x ≡ (let t = trackerAt (k .state .trackers) x in let c = courseOf (flatWith k row) f x in
-          record { said = says row t c; flat = withRow (flatWith k row) (rowBy row t c) x (trackerBy t c); effect = effectBy x t c })
+          → flatStep (flatWith k row) v x ≡ (let t = trackerAt (k .state .trackers) x in let c = courseOf (flatWith k row) (v .found) x in
+          record { said = says row t c; flat = withRow (flatWith k row) (rowBy row t c) x (trackerBy t (v .transfers) c); effect = effectBy x t c })
       unfolding flatStep
       flat-turn e = unless-0 _ _ e
 
@@ -150,17 +150,14 @@ module _ {k : Kept} {row : Row} (a : Ok k row) where
       abbrev u : Tracker
       u = trackerAt (k .state .trackers) x
 
-      abbrev in-line : Bool
-      in-line = ltb (lineOf (k .state .lines) (k .state .shape .l) (leafOf (u .group))) (k .state .shape .l)
-
       abbrev c : Course
-      c = courseOf (flatWith k row) in-line x
+      c = courseOf (flatWith k row) (found k x) x
 
       abbrev turn : Turned
       turn = byPhase (k .state .shape) x u (rowsOf k) (u .phase)
 
       plays : Plays (k .state .shape .n) (k .state .shape .l) x (k .state .trackers) row u c turn
-      plays = plays-byPhase (situation (k .state) (k .bytes) (k .memory) (a .is-whole) (a .right) x xl busy) row (a .agrees) in-line _ refl refl (u .phase) refl
+      plays = plays-byPhase (situation (k .state) (k .bytes) (k .memory) (a .is-whole) (a .right) x xl busy) row (a .agrees) (found k x) _ refl refl (u .phase) refl
 
       step-turn : step (k .state) (k .bytes) (k .memory) x ≡ stepped (k .state) x turn
       step-turn = step-is (k .state) (k .bytes) (k .memory) (a .is-whole) (a .right) x xl busy ∙ ap (stepped (k .state) x) (turn-byPhase (k .state) (k .bytes) (k .memory) (a .is-whole) (a .right) x xl busy)
@@ -168,13 +165,16 @@ module _ {k : Kept} {row : Row} (a : Ok k row) where
       turn-sound : Sound (k .state .shape) (stepped (k .state) x turn)
       turn-sound = subst (Sound (k .state .shape)) step-turn (step-sound (k .state) (k .bytes) (k .memory) (a .is-whole) (a .right) x xl busy)
 
+      told-is : trackerAt (does k (steps x) .state .trackers) x ≡ turn .tracker
+      told-is = ap (λ (z : Out). trackerAt (z .state .trackers) x) (does-step ∙ step-turn) ∙ tracker-same (k .state .trackers) x (turn .tracker) (omega (arith, w .tracked .long, xl))
+
       follows-turn : Follows k (steps x) row
       follows-turn =
           follows-by (stepped (k .state) x turn)
-          (record { said = says row u c; flat = withRow (flatWith k row) (rowBy row u c) x (trackerBy u c); effect = effectBy x u c })
-          (rowBy row u c) (does-step ∙ step-turn) (flat-step ∙ flat-turn in-line free) (plays .said-is)
+          (record { said = says row u c; flat = withRow (flatWith k row) (rowBy row u c) x (trackerBy u (turn .tracker .transfers) c); effect = effectBy x u c })
+          (rowBy row u c) (does-step ∙ step-turn) (flat-step ∙ ap (λ (z : Tracker). flatStep (flatWith k row) (told z) x) told-is ∙ flat-turn (told (turn .tracker)) free) (plays .said-is)
           (ap (λ (z : Tracker). withRow (flatWith k row) (rowBy row u c) x z) (sym (plays .tracker-is))
-          ∙ ap (λ (z : Shape). flatWith (kept (stepped (k .state) x (record { said = turn .said; shape = z; tracker = turn .tracker; rows = turn .rows }))) (rowBy row u c)) (sym (turn-sound .is-shape)))
+          ∙ ap (λ (z : Shape). flatWith (kept (stepped (k .state) x (record { said = turn .said; shape = z; tracker = turn .tracker; rows = turn .rows; transfers = turn .transfers }))) (rowBy row u c)) (sym (turn-sound .is-shape)))
           (record {
             is-whole = turn-sound .is-whole;
             right = turn-sound .right;
@@ -188,7 +188,7 @@ module _ {k : Kept} {row : Row} (a : Ok k row) where
         (refused-or-not (refusal (stepTests (k .state .shape) x (k .state .trackers))))
 
   -- drain
-  flat-drain : flatDoes (flatWith k row) (found k drains) drains ≡ flatDrain (flatWith k row)
+  flat-drain : flatDoes (flatWith k row) (unseen k drains) drains ≡ flatDrain (flatWith k row)
   unfolding flatDoes
   flat-drain = refl
 
@@ -214,7 +214,7 @@ module _ {k : Kept} {row : Row} (a : Ok k row) where
           let s = drain-sound (k .state) (k .bytes) (k .memory) (a .is-whole) (a .right) e in
           let d = drains-same (a .agrees .good) (k .state .shape .l) (omega arith) in
           let b : drained (k .state .shape .l) (rowsOf k) .bytes ≡ k .bytes = drains-lined (k .state) (k .bytes) (k .memory) (a .is-whole) (a .right) e (k .state .shape .l) (omega arith) .bytes-is in
-          follows-by (accepted (withLines (k .state) (drained (k .state .shape .l) (rowsOf k) .lines)) (k .bytes) (drained (k .state .shape .l) (rowsOf k) .memory))
+          follows-by (drainsTo (k .state) (rowsOf k))
           (record { said = ok; flat = flatWith k row; effect = [] }) row (does-drain ∙ is) (flat-drain ∙ flat-drained e) refl refl
           (record {
             is-whole = rw is at (s .is-whole);
@@ -235,11 +235,11 @@ module _ (k : Kept) (b m : List ℕ) (c : Call) where
   does-wrong e = rw e
 
   module _ (row : Row) where
-    flat-right : lengthsRight (k .state .shape) b m ≡ true → flatDoes (flatWith k row) (found k (lends b m c)) (lends b m c) ≡ flatDoes (flatWith k row) (found k c) c
-    unfolding flatDoes found
+    flat-right : lengthsRight (k .state .shape) b m ≡ true → flatDoes (flatWith k row) (unseen k (lends b m c)) (lends b m c) ≡ flatDoes (flatWith k row) (unseen k c) c
+    unfolding flatDoes unseen
     flat-right e = rw (lengths-hand (k .state .shape) b m 0 ∙ e)
 
-    flat-wrong : lengthsRight (k .state .shape) b m ≡ false → flatDoes (flatWith k row) (found k (lends b m c)) (lends b m c) ≡ refuse 2 (flatWith k row)
+    flat-wrong : lengthsRight (k .state .shape) b m ≡ false → flatDoes (flatWith k row) (unseen k (lends b m c)) (lends b m c) ≡ refuse 2 (flatWith k row)
     unfolding flatDoes
     flat-wrong e = rw (lengths-hand (k .state .shape) b m 0 ∙ e)
 
@@ -272,5 +272,5 @@ follows k row a drains q = follows-drain a
 follows k row a (lends b m c) q = go (follows k row a c q) (true-or-false (lengthsRight (k .state .shape) b m))
   where
     go : Follows k c row → (lengthsRight (k .state .shape) b m ≡ true) ⊎ (lengthsRight (k .state .shape) b m ≡ false) → Follows k (lends b m c) row
-    go f (inl e) = follows-by (does k c) (flatDoes (flatWith k row) (found k c) c) (f .row') (does-right k b m c e) (flat-right k b m c row e) (f .said-is) (f .flat-is) (f .ok-still) (f .n-is)
+    go f (inl e) = follows-by (does k c) (flatDoes (flatWith k row) (unseen k c) c) (f .row') (does-right k b m c e) (flat-right k b m c row e) (f .said-is) (f .flat-is) (f .ok-still) (f .n-is)
     go f (inr e) = follows-no a 2 (does-wrong k b m c e ∙ ap (λ (o : Out). elsewhere o k) (wrong-lengths (k .state) c b m (a .is-whole) e)) (flat-wrong k b m c row e)

@@ -25,7 +25,8 @@ use Rattle.line.specs.Word.{used, changed}
 use Rattle.rules.specs.State.{Rows, trackerAt}
 use Rattle.rules.proofs.Lined.{at, Has, low}
 use Rattle.flat.specs.Flat.{Row, tagged}
-use Rattle.flat.proofs.Views.{block-length, group-block, bit-block, empty-group}
+use Rattle.rules.proofs.Blocks.{block-length}
+use Rattle.flat.proofs.Views.{group-block, bit-block, empty-group}
 use Rattle.flat.proofs.Tags.{untagged, tagged-none, tagged-full}
 use Rattle.flat.proofs.Contents.{content, Good, content-in, content-out, lined-or-not}
 use Rattle.flat.proofs.Agrees.{bitOn, Finishes, Agrees, finish-busy}

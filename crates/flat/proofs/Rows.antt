@@ -21,17 +21,12 @@ use Rattle.line.specs.Word.{used, blockOf, changed, heldBy, word, lineBlocks, m
 use Rattle.line.specs.Find.{lineOf}
 use Rattle.rules.specs.State.{Rows}
 use Rattle.rules.specs.Place.{lineBytes, rowsFit, placeLine, writtenBack, Brought, filled, withMemory, withLines, bringIn}
-use Rattle.line.proofs.Words.{blockOf-word, changed-word, free-used, not-used, used-word}
-use Rattle.rules.proofs.Words.{blockOf-heldBy, changed-heldBy, used-heldBy}
+use Rattle.line.proofs.Words.{blockOf-word, changed-word, free-used, used-word}
+use Rattle.rules.proofs.Words.{blockOf-heldBy, changed-heldBy, changed-used, used-heldBy}
 use Rattle.rules.proofs.Lined.{at, Has, Lined, low, lineOf-none, new-or-old, has-other}
 use Rattle.rules.proofs.Placed.{place-loose, place-memory, bring-found, bring-placed}
-use Rattle.flat.proofs.Views.{Has64, block-length, put-length, put-here, put-there}
+use Rattle.rules.proofs.Blocks.{Has64, block-length, put-length, put-here, put-there}
 use Rattle.flat.proofs.Contents.{content, Good, lined-or-not, content-in, content-out, Change, change-good, change-here, change-other, change-gone, marked-good, marked-content, marked-had}
-
--- a changed line is not free
-changed-used : (w : ℕ) → changed w ≡ true → used w ≡ true
-unfolding changed
-changed-used w e = ⊎-elim (λ u. u) (λ u. absurd (not-both-ways e (ap changed (not-used w u)))) (true-or-false (used w))
 
 -- rows that have the same contents
 pub record Same (B l : ℕ) (r r' : Rows) : Type 0 where

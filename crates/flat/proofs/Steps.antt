@@ -9,7 +9,7 @@ use native.Mathlib.Decide.{ℕ-discrete}
 use lib.Dec.{eqb, ltb}
 use lib.ListN.{length, set}
 use borrow.Author.Tests.{lt-ltb, le-ltb, eqb-true}
-use Rattle.tracker.specs.Tracker.{atFinish, idle, isIdle, holdsAt, goesTo, counted}
+use Rattle.tracker.specs.Tracker.{atFinish, idle, isIdle, holdsAt, at as now-at, goesTo, counted}
 use Rattle.tracker.proofs.Phases.{idle-loose, finish-holds}
 use Rattle.geometry.proofs.Places.{leafOf-lt, byteOf-lt, group-lt, mapBlockOf-lt, leaf-has-bit, mapByteOf-lt, mapBitOf-lt}
 use Rattle.geometry.specs.declared.Shape.{Shape}
@@ -22,13 +22,16 @@ use Rattle.laws.proofs.Scan.{all-is, all-fails}
 use Rattle.block.specs.Block.{groupAt, putGroup, putBit, allZero}
 use Rattle.tracker.specs.declared.Phase.{Phase}
 use Rattle.tracker.specs.declared.Phase.the-variants.{Idle, Probe, Map, Leaf, Set, Clear}
+use Rattle.tracker.specs.declared.Transfers.{Transfers}
 use Rattle.tracker.specs.declared.Tracker.{Tracker}
-use Rattle.tracker.specs.Answer.{Said, read, done, same}
+use Rattle.tracker.specs.Transfers.{none}
+use Rattle.tracker.specs.Answer.{Said, moved, read, done, same}
 use Rattle.line.specs.Word.{blockOf, holder, held, word, lineBlocks, marks}
 use Rattle.line.specs.Find.{lineOf}
 use Rattle.rules.specs.State.{Rows, trackerAt}
 use Rattle.rules.specs.Whole.{mapBlock, holds}
-use Rattle.rules.specs.Place.{lineBytes, placeLine, placeHand, Brought, filled, withMemory, withLines, writtenBack, bringIn}
+use Rattle.rules.specs.Copies.{tally}
+use Rattle.rules.specs.Place.{lineBytes, placeLine, placeHand, placeCopies, Brought, filled, withMemory, withLines, writtenBack, bringIn}
 use Rattle.rules.specs.Step.{Turned, ends, goes, waits, turnsOf, groupIn, bitIn, letGo, probe, holdsMap, onMap, map, leafRead, putIn, writeUnder1, writeUnder0, newLeaf, leafWrite, finish, holding, byPhase}
 use Rattle.rules.proofs.Words.{held-holder, holder-held}
 use Rattle.rules.proofs.Lined.{at, Has, Held, low, lineOf-is, lineOf-has}
@@ -37,7 +40,8 @@ use Rattle.rules.proofs.Placed.{Brings, brings, place-loose, place-memory}
 use Rattle.rules.proofs.Keeps.{Situation, blocks-small, j-lt, j-has, j-holder}
 use Rattle.rules.proofs.Ways.{probe-miss, probe-read, probe-same, probe-other, map-read, map-same, map-create, map-hold, map-wait, map-on, leafRead-is, write1-same, write1-put, write0-same, write0-place, leafWrite-0, leafWrite-1, bytesWith, putIn-empty, putIn-done, finish-is, inLine-is}
 use Rattle.flat.specs.Flat.{Row, put, tagged, after, answer, Course, course, says, rowBy, trackerBy, someHolds}
-use Rattle.flat.proofs.Views.{Has64, group-block, bit-block, group-here, group-there, group-whole, bit-here, bit-there, bit-whole, put-groups, group-length, put-long, zeros, zeros-long, new-leaf}
+use Rattle.rules.proofs.Blocks.{Has64}
+use Rattle.flat.proofs.Views.{group-block, bit-block, group-here, group-there, group-whole, bit-here, bit-there, bit-whole, put-groups, group-length, put-long, zeros, zeros-long, new-leaf}
 use Rattle.flat.proofs.Tags.{untagged, tagged-at, tagged-empty, tagged-full}
 use Rattle.flat.proofs.Contents.{content, Good, content-in, has-same}
 use Rattle.flat.proofs.Rows.{Same, Placing, Writing, line-length, placed-good, placed-here, placed-other, placed-had, written-good, written-here, written-other, written-had, written-still, freed-good, freed-other, freed-had, mark-same, mark-had, BringsIn, brings-in}
@@ -50,29 +54,36 @@ same-then a b = record { good = b .good; same = λ d q. b .same d q ∙ a .same 
 -- a step of tracker x, which is u, that takes course c on the row
 pub record Plays (n l x : ℕ) (ts : List Tracker) (row : Row) (u : Tracker) (c : Course) (o : Turned) : Type 0 where
   pub said-is : o .said ≡ says row u c
-  pub tracker-is : o .tracker ≡ trackerBy u c
+  pub tracker-is : o .tracker ≡ trackerBy u (o .tracker .transfers) c
   pub agrees : Agrees n l (o .rows) (set ts x (o .tracker)) (rowBy row u c)
+
+-- a step that goes on, and one that ends, with transfers m
+abbrev went : Tracker → Phase → Transfers → Shape → Rows → Turned
+went u p m shape r = record { said = moved; shape = shape; tracker = now-at u p m; rows = r; transfers = none }
+
+abbrev ended : Said → Transfers → Shape → Rows → Turned
+ended a m shape r = record { said = a; shape = shape; tracker = idle; rows = r; transfers = m }
 
 module _ {n l x : ℕ} {ts : List Tracker} {row : Row} {u : Tracker} {c : Course} {r' : Rows} (shape : Shape) where
   plays-waits : c ≡ Course.waits → Agrees n l r' (set ts x (counted u)) row → Plays n l x ts row u c (waits u shape r')
   plays-waits e a = rw e (record { said-is = refl; tracker-is = refl; agrees = a })
 
-  plays-goes : (p : Phase) → c ≡ Course.goes p → Agrees n l r' (set ts x (goesTo u p)) row → Plays n l x ts row u c (goes u p shape r')
+  plays-goes : (p : Phase) {m : Transfers} → c ≡ Course.goes p → Agrees n l r' (set ts x (now-at u p m)) row → Plays n l x ts row u c (went u p m shape r')
   plays-goes p e a = rw e (record { said-is = refl; tracker-is = refl; agrees = a })
 
-  plays-takes : (p : Phase) → c ≡ Course.takes p → Agrees n l r' (set ts x (goesTo u p)) (after row u) → Plays n l x ts row u c (goes u p shape r')
+  plays-takes : (p : Phase) {m : Transfers} → c ≡ Course.takes p → Agrees n l r' (set ts x (now-at u p m)) (after row u) → Plays n l x ts row u c (went u p m shape r')
   plays-takes p e a = rw e (record { said-is = refl; tracker-is = refl; agrees = a })
 
-  plays-ends : (a : Said) → c ≡ Course.ends → a ≡ answer row u → Agrees n l r' (set ts x idle) (after row u) → Plays n l x ts row u c (ends a shape r')
+  plays-ends : (a : Said) {m : Transfers} → c ≡ Course.ends → a ≡ answer row u → Agrees n l r' (set ts x idle) (after row u) → Plays n l x ts row u c (ended a m shape r')
   plays-ends a e s g = rw e (record { said-is = s; tracker-is = refl; agrees = g })
 
-  plays-read : (v : ℕ) → c ≡ Course.ends → u .write ≡ false → v ≡ row (u .group) → Agrees n l r' (set ts x idle) row → Plays n l x ts row u c (ends (read v (turnsOf u)) shape r')
+  plays-read : (v : ℕ) {m : Transfers} → c ≡ Course.ends → u .write ≡ false → v ≡ row (u .group) → Agrees n l r' (set ts x idle) row → Plays n l x ts row u c (ended (read v (turnsOf u)) m shape r')
   plays-read v e w q g = plays-ends (read v (turnsOf u)) e (ap (λ (z : ℕ). read z (turnsOf u)) q ∙ sym (answer-read row u w)) (rw (after-read row u w) g)
 
-  plays-same : c ≡ Course.ends → u .write ≡ true → row (u .group) ≡ u .value → Agrees n l r' (set ts x idle) row → Plays n l x ts row u c (ends (same (turnsOf u)) shape r')
+  plays-same : {m : Transfers} → c ≡ Course.ends → u .write ≡ true → row (u .group) ≡ u .value → Agrees n l r' (set ts x idle) row → Plays n l x ts row u c (ended (same (turnsOf u)) m shape r')
   plays-same e w q g = plays-ends (same (turnsOf u)) e (sym (answer-same row u w q)) (rw (after-same row u w q) g)
 
-  plays-finishes : c ≡ Course.finishes → Agrees n l r' (set ts x idle) row → Plays n l x ts row u c (ends (done (turnsOf u)) shape r')
+  plays-finishes : {m : Transfers} → c ≡ Course.finishes → Agrees n l r' (set ts x idle) row → Plays n l x ts row u c (ended (done (turnsOf u)) m shape r')
   plays-finishes e a = rw e (record { said-is = refl; tracker-is = refl; agrees = a })
 
 not-finish : (p q : Phase) → p ≡ q → atFinish q ≡ false → atFinish p ≡ true → ⊥
@@ -177,8 +188,8 @@ module _ (sit : Situation) (row : Row) (A : Agrees (sit .shape .n) (sit .shape .
 
   -- Probe
   module _ (ph : u .phase ≡ Probe) (found hd : Bool) where
-    probe-to : course row found hd u Probe ≡ Course.goes Map → Plays n l x ts row u (course row found hd u Probe) (goes u Map shape r)
-    probe-to e = plays-goes shape Map e (moves-on here (A .lined) Probe ph refl (goesTo u Map) value-ok tt)
+    probe-to : course row found hd u Probe ≡ Course.goes Map → Plays n l x ts row u (course row found hd u Probe) (goes u Map none shape r)
+    probe-to e = plays-goes shape Map e (moves-on here (A .lined) Probe ph refl (goesTo u Map none) value-ok tt)
 
     plays-probe : found ≡ ltb (lineOf (r .lines) l (leafOf (u .group))) l → Plays n l x ts row u (course row found hd u Probe) (probe shape u r)
     plays-probe f = go (lt-or-ge (lineOf (r .lines) l (leafOf (u .group))) l) (true-or-false (u .write))
@@ -243,7 +254,7 @@ module _ (sit : Situation) (row : Row) (A : Agrees (sit .shape .n) (sit .shape .
       map-held e ft = plays-goes _ Leaf e (moves-on
           (same-then (map-in .rows) (mark-same (map-in .rows .good) _ _ (x + 1) (map-brings .has-it) small mark-fits))
           (λ i j q h. map-lined i j q (mark-had (map-in .rows .good) _ _ (x + 1) (map-brings .has-it) small mark-fits i j h))
-          Map ph refl (goesTo u Leaf) value-ok ft)
+          Map ph refl (goesTo u Leaf (bringIn shape (mapBlock n (u .group)) r .copies)) value-ok ft)
 
       plays-onMap : Plays n l x ts row u (course row found hd u Map) (onMap x u (bringIn shape (mapBlock n (u .group)) r))
       plays-onMap = go (true-or-false (tagged row (leafOf (u .group)))) (true-or-false (u .write)) (ℕ-discrete (u .value) 0)
@@ -444,11 +455,11 @@ module _ (sit : Situation) (row : Row) (A : Agrees (sit .shape .n) (sit .shape .
 
           -- the leaf is empty now
           clears : allZero withV ≡ true → Plays n l x ts row u (course row found hd u Leaf)
-              (goes u Clear (b .shape) (record { lines = set (b .rows .lines) (b .line) 0; bytes = bytesWith u b; memory = b .rows .memory }))
+              (goes u Clear (b .copies) (b .shape) (record { lines = set (b .rows .lines) (b .line) 0; bytes = bytesWith u b; memory = b .rows .memory }))
           clears z =
               let off : tagged (put row (u .group) (u .value)) (leafOf (u .group)) ≡ false = tagged-empty (put row (u .group) (u .value)) (leafOf (u .group)) withV v-long new-groups z in
               plays-takes (b .shape) Clear (leaf-clears row found hd u (other-something row u wr ne) tg (rw (after-write row u wr) off))
-              (rw (after-write row u wr) (agrees-leaf A x xlong (goesTo u Clear) value-ok (u .group) (u .value) group-ok alone (not-at-finish Leaf ph refl)
+              (rw (after-write row u wr) (agrees-leaf A x xlong (goesTo u Clear (b .copies)) value-ok (u .group) (u .value) group-ok alone (not-at-finish Leaf ph refl)
               (freed-good (leaf-in .rows .good) put-write)
               (λ d q n'. freed-other (leaf-in .rows .good) put-write d q n' ∙ leaf-in .rows .same d q)
               (λ e. absurd (not-both-ways e off))
@@ -477,7 +488,7 @@ module _ (sit : Situation) (row : Row) (A : Agrees (sit .shape .n) (sit .shape .
           w-mark = mark-same w-good j _ 0 w-j small zero-mark
 
           stays : allZero withV ≡ false → Plays n l x ts row u (course row found hd u Leaf)
-              (ends (done (turnsOf u)) (b .shape) (withLines written (letGo false (written .lines) j)))
+              (ends (done (turnsOf u)) (b .shape) u (b .copies) (withLines written (letGo false (written .lines) j)))
           stays z =
               let on : tagged (put row (u .group) (u .value)) (leafOf (u .group)) ≡ true = tagged-full (put row (u .group) (u .value)) (leafOf (u .group)) withV v-long new-groups z in
               plays-ends (b .shape) (done (turnsOf u)) (leaf-done row found hd u (other-something row u wr ne) tg (rw (after-write row u wr) on)) (sym (answer-done row u wr ne))
@@ -540,10 +551,10 @@ module _ (sit : Situation) (row : Row) (A : Agrees (sit .shape .n) (sit .shape .
             tags d i q (inl hd) = put-far row (u .group) (u .value) d (λ e. none-lined i (rw e at hd)) ∙ A .lined i d q hd
             tags d i q (inr e) = rw e on
 
-            sets : Plays n l x ts row u (course row found hd u Leaf) (goes u Set (atHand shape (placeHand shape (r .lines) (r .bytes)))
+            sets : Plays n l x ts row u (course row found hd u Leaf) (goes u Set (tally (placeCopies shape r)) (atHand shape (placeHand shape (r .lines) (r .bytes)))
                 (filled (withMemory r (writtenBack (r .lines) (r .bytes) (r .memory) p)) p (leafOf (u .group)) true (newLeaf u)))
             sets = plays-takes _ Set (leaf-sets row found hd u (other-something row u wr (λ e. nz (sym e ∙ row-0))) tg)
-                (rw (after-write row u wr) (agrees-leaf A x xlong (goesTo u Set) value-ok (u .group) (u .value) group-ok alone (not-at-finish Leaf ph refl)
+                (rw (after-write row u wr) (agrees-leaf A x xlong (goesTo u Set (tally (placeCopies shape r))) value-ok (u .group) (u .value) group-ok alone (not-at-finish Leaf ph refl)
                 (placed-good (A .good) create)
                 (λ d q n'. placed-other (A .good) create d q n')
                 (λ _ g e. new-leaf row (u .group) g (u .value) value-ok e (untagged row (leafOf (u .group)) tg g e)

@@ -1,11 +1,10 @@
 -- Groups, bits and zero bytes of one block in a row of blocks, and what a write into one block leaves of the others.
-use mathlib.Core.Path.{_≡_, refl, sym, ap, _∙_, subst}
+use mathlib.Core.Path.{_≡_, refl, sym, ap, _∙_}
 use mathlib.Core.Bool.{true}
 use mathlib.Core.List.{List}
-use mathlib.Core.Logic.{_⊎_, inl, inr}
 use Prim.Native.Nat.{ℕ, zero, suc, _+_, _*_, _/_, _%_, _<_, _≤_}
 use native.Mathlib.Omega.{arith}
-use native.Mathlib.Decide.{ℕ-discrete, decLt}
+use native.Mathlib.Decide.{ℕ-discrete}
 use lib.Dec.{eqb}
 use borrow.Author.Tests.{eq-eqb, ne-eqb}
 use lib.ListN.{length, getD, set, replicate, length-set}
@@ -14,9 +13,9 @@ use Rattle.geometry.proofs.Places.{byteOf-lt, byteOf-apart}
 use Rattle.laws.specs.Choice.{pick, both}
 use Rattle.laws.specs.Scan.{all}
 use Rattle.laws.specs.Bits.{withBit}
-use Rattle.laws.specs.Bytes.{part, splice, putW, bytes}
-use Rattle.laws.proofs.Splice.{length-splice, part-same, part-other, getD-part, splice-in}
-use Rattle.laws.proofs.Put.{length-part, putW-fits}
+use Rattle.laws.specs.Bytes.{splice, bytes}
+use Rattle.laws.proofs.Splice.{length-splice, getD-part, splice-in}
+use Rattle.laws.proofs.Put.{length-part}
 use Rattle.laws.proofs.Value.{length-bytes}
 use Rattle.geometry.specs.TagMemory.{leafOf, byteOf, values}
 use Rattle.memory.specs.True.{blockAt}
@@ -24,16 +23,10 @@ use Rattle.block.specs.Block.{groupAt, putGroup, bitAt, putBit, allZero}
 use Rattle.block.proofs.Groups.{groupAt-fits, putGroup-fits, groupAt-putGroup-same, groupAt-putGroup-other}
 use Rattle.block.proofs.BitsOf.{putBit-is}
 use Rattle.block.proofs.Zero.{allZero-at, allZero-is}
+use Rattle.rules.proofs.Blocks.{Has64, block-length, block-fit, splice-here, splice-there}
 use Rattle.flat.specs.Flat.{Row, put}
 
--- the row m has block b
-abbrev pub Has64 : List ℕ → ℕ → Type 0
-Has64 m b = 64 * b + 64 ≤ length m
-
 module _ (m : List ℕ) (b : ℕ) (h : Has64 m b) where
-  pub block-length : length (blockAt m b) ≡ 64
-  block-length = length-part m (64 * b) 64 h
-
   pub group-block : (o : ℕ) → o + 4 ≤ 64 → groupAt m (64 * b + o) ≡ groupAt (blockAt m b) o
   group-block o q =
       let e0 : getD (blockAt m b) o 0 ≡ getD m (64 * b + o) 0 = getD-part m (64 * b) 64 o (omega arith) in
@@ -43,38 +36,11 @@ module _ (m : List ℕ) (b : ℕ) (h : Has64 m b) where
       let s1 : 64 * b + o + 1 ≡ 64 * b + (o + 1) = omega arith in
       let s2 : 64 * b + o + 2 ≡ 64 * b + (o + 2) = omega arith in
       let s3 : 64 * b + o + 3 ≡ 64 * b + (o + 3) = omega arith in
-      groupAt-fits m (64 * b + o) (omega arith) ∙ rw (s1, s2, s3, ← e0, ← e1, ← e2, ← e3) (sym (groupAt-fits (blockAt m b) o (omega (arith, block-length))))
+      groupAt-fits m (64 * b + o) (omega arith) ∙ rw (s1, s2, s3, ← e0, ← e1, ← e2, ← e3) (sym (groupAt-fits (blockAt m b) o (omega (arith, block-length m b h))))
 
   pub bit-block : (o k : ℕ) → o < 64 → bitAt m (64 * b + o) k ≡ bitAt (blockAt m b) o k
   unfolding bitAt
   bit-block o k q = rw (getD-part m (64 * b) 64 o q)
-
-  -- another block, where this one's bytes change
-  module _ (y : List ℕ) (ly : length y ≡ 64) where
-    fit : 64 * b + length y ≤ length m
-    fit = omega arith
-
-    pub splice-here : blockAt (splice m (64 * b) y) b ≡ y
-    splice-here = subst (λ (w : ℕ). part (splice m (64 * b) y) (64 * b) w ≡ y) ly (part-same m (64 * b) y fit)
-
-    pub splice-there : (c : ℕ) → Has64 m c → (c ≡ b → ⊥) → blockAt (splice m (64 * b) y) c ≡ blockAt m c
-    splice-there c hc n = part-other m (64 * b) y (64 * c) 64 fit hc (sides (decLt c b))
-      where
-        sides : Dec (c < b) → (64 * c + 64 ≤ 64 * b) ⊎ (64 * b + length y ≤ 64 * c)
-        sides (yes q) = inl (omega arith)
-        sides (no q) = inr (omega arith)
-
-    pub put-is : putW 64 m (64 * b) y ≡ splice m (64 * b) y
-    put-is = putW-fits 64 m (64 * b) y h
-
-    pub put-length : length (putW 64 m (64 * b) y) ≡ length m
-    put-length = ap length put-is ∙ length-splice m (64 * b) y fit
-
-    pub put-here : blockAt (putW 64 m (64 * b) y) b ≡ y
-    put-here = rw put-is splice-here
-
-    pub put-there : (c : ℕ) → Has64 m c → (c ≡ b → ⊥) → blockAt (putW 64 m (64 * b) y) c ≡ blockAt m c
-    put-there c hc n = rw put-is (splice-there c hc n)
 
   -- a group put into this block
   module _ (o v : ℕ) (q : o + 4 ≤ 64) where
@@ -83,22 +49,22 @@ module _ (m : List ℕ) (b : ℕ) (h : Has64 m b) where
         let l4 : length (bytes 4 v) ≡ 4 = length-bytes 4 v in
         putGroup-fits m (64 * b + o) v (omega arith)
         ∙ sym (splice-in m (64 * b) 64 o (bytes 4 v) h (omega arith))
-        ∙ ap (splice m (64 * b)) (sym (putGroup-fits (blockAt m b) o v (omega (arith, block-length))))
+        ∙ ap (splice m (64 * b)) (sym (putGroup-fits (blockAt m b) o v (omega (arith, block-length m b h))))
 
     pub group-length : length (putGroup (blockAt m b) o v) ≡ 64
     group-length =
         let l4 : length (bytes 4 v) ≡ 4 = length-bytes 4 v in
-        ap length (putGroup-fits (blockAt m b) o v (omega (arith, block-length)))
-        ∙ length-splice (blockAt m b) o (bytes 4 v) (omega (arith, block-length)) ∙ block-length
+        ap length (putGroup-fits (blockAt m b) o v (omega (arith, block-length m b h)))
+        ∙ length-splice (blockAt m b) o (bytes 4 v) (omega (arith, block-length m b h)) ∙ block-length m b h
 
     pub group-here : blockAt (putGroup m (64 * b + o) v) b ≡ putGroup (blockAt m b) o v
-    group-here = rw as-block (splice-here (putGroup (blockAt m b) o v) group-length)
+    group-here = rw as-block (splice-here m b h (putGroup (blockAt m b) o v) group-length)
 
     pub group-there : (c : ℕ) → Has64 m c → (c ≡ b → ⊥) → blockAt (putGroup m (64 * b + o) v) c ≡ blockAt m c
-    group-there c hc n = rw as-block (splice-there (putGroup (blockAt m b) o v) group-length c hc n)
+    group-there c hc n = rw as-block (splice-there m b h (putGroup (blockAt m b) o v) group-length c hc n)
 
     pub group-whole : length (putGroup m (64 * b + o) v) ≡ length m
-    group-whole = ap length as-block ∙ length-splice m (64 * b) (putGroup (blockAt m b) o v) (fit (putGroup (blockAt m b) o v) group-length)
+    group-whole = ap length as-block ∙ length-splice m (64 * b) (putGroup (blockAt m b) o v) (block-fit m b h (putGroup (blockAt m b) o v) group-length)
 
   -- a bit put into this block
   module _ (o k v : ℕ) (q : o < 64) (kl : k < 8) where
@@ -106,7 +72,7 @@ module _ (m : List ℕ) (b : ℕ) (h : Has64 m b) where
     bit-whole = ap length (putBit-is m (64 * b + o) k v kl) ∙ length-set m (64 * b + o) _
 
     pub bit-length : length (putBit (blockAt m b) o k v) ≡ 64
-    bit-length = ap length (putBit-is (blockAt m b) o k v kl) ∙ length-set (blockAt m b) o _ ∙ block-length
+    bit-length = ap length (putBit-is (blockAt m b) o k v kl) ∙ length-set (blockAt m b) o _ ∙ block-length m b h
 
     pub bit-there : (c : ℕ) → Has64 m c → (c ≡ b → ⊥) → blockAt (putBit m (64 * b + o) k v) c ≡ blockAt m c
     bit-there c hc n =
@@ -125,7 +91,7 @@ module _ (m : List ℕ) (b : ℕ) (h : Has64 m b) where
       where
         at : (i : ℕ) → i < 64 → Dec (i ≡ o)
             → getD (set m (64 * b + o) (withBit (getD m (64 * b + o) 0) k v)) (64 * b + i) 0 ≡ getD (set (blockAt m b) o (withBit (getD m (64 * b + o) 0) k v)) i 0
-        at i l (yes e) = rw e (getD-set-same m (64 * b + o) _ 0 (omega arith) ∙ sym (getD-set-same (blockAt m b) o _ 0 (omega (arith, block-length))))
+        at i l (yes e) = rw e (getD-set-same m (64 * b + o) _ 0 (omega arith) ∙ sym (getD-set-same (blockAt m b) o _ 0 (omega (arith, block-length m b h))))
         at i l (no e) = getD-set-other m (64 * b + o) (64 * b + i) _ 0 (λ p. e (omega arith)) ∙ sym (getD-part m (64 * b) 64 i l) ∙ sym (getD-set-other (blockAt m b) o i _ 0 e)
 
 -- One block of 64 bytes as its 16 groups.

@@ -18,12 +18,13 @@ use Rattle.line.specs.Word.{used, blockOf, changed, holder, held, has, word, he
 use Rattle.line.specs.Find.{lineOf, lowestFree, looseFrom, victim, after}
 use Rattle.rules.specs.State.{lengthsRight}
 use Rattle.rules.specs.Whole.{limits, holds, lineWhole, trackerWhole, whole}
-use Rattle.rules.specs.Place.{rowsFit, placeLine, placeHand, writtenBack, placeMemory, bringIn, drained}
+use Rattle.rules.specs.Copies.{fetches, backs, tally}
+use Rattle.rules.specs.Place.{rowsFit, placeLine, placeHand, writtenBack, backOf, placeMemory, placeCopies, bringIn, drained, drainCopies}
 use Rattle.rules.specs.Step.{probe, onMap, map, leafRead, putIn, writeUnder1, writeUnder0, leafWrite, finish, inLine, fit, turnOf}
 use Rattle.rules.specs.Calls.{fresh, meets, meetsNone, issueNo, issue, stepNo, step, allIdle, drainNo, drain}
 use Rattle.rules.specs.Run.{Call, issues, steps, drains, Kept, kept, does, answers, ended}
 use Rattle.flat.specs.Flat.{tagged, someHolds, flatIssue, flatStep, flatDrain, flatDoes, flatAnswers, flatEnded}
-use Rattle.flat.specs.Demand.{found, given, flatOf}
+use Rattle.flat.specs.Demand.{unseen, given, flatOf}
 
 -- a fresh memory of four leaves over stale bytes, two trackers, three lines
 abbrev begun : Kept
@@ -59,7 +60,7 @@ pub record Worked : Type 0 where
   pub row-emptied : flatEnded (flatOf begun) (given begun calls) .row 33 ≡ 0
 
 pub worked : Worked
-unfolding both either implies no refusal unless leafOf byteOf groups mapBlockOf mapByteOf mapBitOf mapBlocks part splice fits putW value bytes numberAt first all bitOf withBit inLimits bitAt putBit allZero blockOr0 leafBit plainGroup trueAt isTrue clearedMap used blockOf changed holder held has word heldBy cleaned lineOf lowestFree looseFrom victim after lengthsRight limits holds lineWhole trackerWhole whole rowsFit placeLine placeHand writtenBack placeMemory bringIn drained probe onMap map leafRead putIn writeUnder1 writeUnder0 leafWrite finish inLine fit turnOf fresh meets meetsNone issueNo issue stepNo step allIdle drainNo drain does answers ended tagged someHolds flatIssue flatStep flatDrain flatDoes flatAnswers flatEnded found given
+unfolding both either implies no refusal unless leafOf byteOf groups mapBlockOf mapByteOf mapBitOf mapBlocks part splice fits putW value bytes numberAt first all bitOf withBit inLimits bitAt putBit allZero blockOr0 leafBit plainGroup trueAt isTrue clearedMap used blockOf changed holder held has word heldBy cleaned lineOf lowestFree looseFrom victim after lengthsRight limits holds lineWhole trackerWhole whole rowsFit placeLine placeHand fetches backs tally writtenBack backOf placeMemory placeCopies bringIn drained drainCopies probe onMap map leafRead putIn writeUnder1 writeUnder0 leafWrite finish inLine fit turnOf fresh meets meetsNone issueNo issue stepNo step allIdle drainNo drain does answers ended tagged someHolds flatIssue flatStep flatDrain flatDoes flatAnswers flatEnded unseen given
 worked = record {
   accepted = refl;
   answered = refl;

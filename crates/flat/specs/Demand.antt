@@ -1,27 +1,32 @@
 -- A run of the rules beside the flat machine: what the machine is given, and where it begins.
 use mathlib.Core.List.{List, [], _∷_}
 use mathlib.Core.Bool.{Bool, false}
-use Prim.Native.Nat.{_<_}
+use Prim.Native.Nat.{ℕ, _<_}
 use lib.Dec.{ltb}
 use Rattle.geometry.specs.Shape.{atHand}
 use Rattle.geometry.specs.TagMemory.{leafOf, values}
 use Rattle.memory.specs.PlainReading.{plainGroup}
+use Rattle.tracker.specs.Transfers.{none}
 use Rattle.line.specs.Find.{lineOf}
 use Rattle.rules.specs.State.{trackerAt}
 use Rattle.rules.specs.Run.{Call, issues, steps, drains, lends, Kept, kept, does}
-use Rattle.flat.specs.Flat.{Flat, Given}
+use Rattle.flat.specs.Flat.{Flat, Unseen, Given}
 
 -- Whether the leaf of the access that is stepped is in a line: all that an answer needs and the row does not say.
-unfoldable pub found : Kept → Call → Bool
-found k (issues x access) = false
-found k (steps x) = ltb (lineOf (k .state .lines) (k .state .shape .l) (leafOf (trackerAt (k .state .trackers) x .group))) (k .state .shape .l)
-found k drains = false
-found k (lends b m c) = found k c
+abbrev pub found : Kept → ℕ → Bool
+found k x = ltb (lineOf (k .state .lines) (k .state .shape .l) (leafOf (trackerAt (k .state .trackers) x .group))) (k .state .shape .l)
+
+-- with the transfers of its tracker after the step
+unfoldable pub unseen : Kept → Call → Unseen
+unseen k (issues x access) = record { found = false; transfers = none }
+unseen k (steps x) = record { found = found k x; transfers = trackerAt (does k (steps x) .state .trackers) x .transfers }
+unseen k drains = record { found = false; transfers = none }
+unseen k (lends b m c) = unseen k c
 
 -- the calls of a run as the flat row is given them
 unfoldable pub given : Kept → List Call → List Given
 given k [] = []
-given k (c ∷ cs) = record { call = c; found = found k c } ∷ given (kept (does k c)) cs
+given k (c ∷ cs) = record { call = c; unseen = unseen k c } ∷ given (kept (does k c)) cs
 
 -- the flat machine at the beginning of a run: the row is what the memory reads
 abbrev pub flatOf : Kept → Flat

@@ -13,8 +13,9 @@ use Rattle.laws.specs.Refusal.{refusal, unless}
 use Rattle.tracker.specs.declared.Phase.{Phase}
 use Rattle.tracker.specs.declared.Phase.the-variants.{Idle, Probe, Map, Leaf, Set, Clear}
 use Rattle.tracker.specs.declared.Access.{Access}
+use Rattle.tracker.specs.declared.Transfers.{Transfers}
 use Rattle.tracker.specs.declared.Tracker.{Tracker}
-use Rattle.tracker.specs.Tracker.{idle, issued, isIdle, goesTo, counted}
+use Rattle.tracker.specs.Tracker.{idle, issued, isIdle, at, counted}
 use Rattle.tracker.specs.Answer.{Said, ok, wait, moved, read, done, same}
 use Rattle.rules.specs.State.{trackerAt, lengthsRight}
 use Rattle.rules.specs.Whole.{mapBlock, holds}
@@ -72,7 +73,7 @@ course row found held t Leaf =
 course row found held t Set = finishes
 course row found held t Clear = finishes
 
--- What the step says, and the row and the tracker that it leaves.
+-- What the step says, and the row and the tracker that it leaves; m are the transfers that a tracker that goes on then has.
 abbrev pub says : Row → Tracker → Course → Said
 says row t waits = wait
 says row t (goes p) = moved
@@ -87,12 +88,12 @@ rowBy row t ends = after row t
 rowBy row t (takes p) = after row t
 rowBy row t finishes = row
 
-abbrev pub trackerBy : Tracker → Course → Tracker
-trackerBy t waits = counted t
-trackerBy t (goes p) = goesTo t p
-trackerBy t ends = idle
-trackerBy t (takes p) = goesTo t p
-trackerBy t finishes = idle
+abbrev pub trackerBy : Tracker → Transfers → Course → Tracker
+trackerBy t m waits = counted t
+trackerBy t m (goes p) = at t p m
+trackerBy t m ends = idle
+trackerBy t m (takes p) = at t p m
+trackerBy t m finishes = idle
 
 -- the step is its access's moment
 abbrev pub moment : Course → Bool
@@ -129,10 +130,14 @@ courseOf f found x =
 abbrev pub withRow : Flat → Row → ℕ → Tracker → Flat
 withRow f row x t = record { shape = f .shape; row = row; trackers = set (f .trackers) x t }
 
--- a call with what the row cannot know: for a step, whether its access's leaf is in a line
+-- what the row cannot know of a step: whether its access's leaf is in a line, and the transfers that its tracker then has, which no answer shows
+pub record Unseen : Type 0 where
+  pub found : Bool
+  pub transfers : Transfers
+
 pub record Given : Type 0 where
   pub call : Call
-  pub found : Bool
+  pub unseen : Unseen
 
 pub record Reply : Type 0 where
   pub said : Said
@@ -149,12 +154,12 @@ flatIssue f x access =
     (record { said = ok; flat = withRow f (f .row) x (issued access); effect = [] }) (λ c. refuse c f)
 
 -- "tracker number T or more" 5, "step of an idle tracker" 8
-unfoldable pub flatStep : Flat → Bool → ℕ → Reply
-flatStep f found x =
+unfoldable pub flatStep : Flat → Unseen → ℕ → Reply
+flatStep f v x =
     let t = trackerAt (f .trackers) x in
-    let c = courseOf f found x in
+    let c = courseOf f (v .found) x in
     unless (refusal (stepTests (f .shape) x (f .trackers)))
-    (record { said = says (f .row) t c; flat = withRow f (rowBy (f .row) t c) x (trackerBy t c); effect = effectBy x t c }) (λ r. refuse r f)
+    (record { said = says (f .row) t c; flat = withRow f (rowBy (f .row) t c) x (trackerBy t (v .transfers) c); effect = effectBy x t c }) (λ r. refuse r f)
 
 -- every access is at rest
 abbrev pub allRest : Flat → Bool
@@ -165,17 +170,17 @@ unfoldable pub flatDrain : Flat → Reply
 flatDrain f = unless (refusal (drainTests (allRest f))) (record { said = ok; flat = f; effect = [] }) (λ c. refuse c f)
 
 -- one call; "a lent length differs from the rule" 2
-unfoldable pub flatDoes : Flat → Bool → Call → Reply
-flatDoes f found (issues x access) = flatIssue f x access
-flatDoes f found (steps x) = flatStep f found x
-flatDoes f found drains = flatDrain f
-flatDoes f found (lends b m c) = pick (lengthsRight (f .shape) b m) (flatDoes f found c) (refuse 2 f)
+unfoldable pub flatDoes : Flat → Unseen → Call → Reply
+flatDoes f v (issues x access) = flatIssue f x access
+flatDoes f v (steps x) = flatStep f v x
+flatDoes f v drains = flatDrain f
+flatDoes f v (lends b m c) = pick (lengthsRight (f .shape) b m) (flatDoes f v c) (refuse 2 f)
 
 -- any list of calls: what they say, and what is left at the end
 unfoldable pub flatAnswers : Flat → List Given → List Said
 flatAnswers f [] = []
-flatAnswers f (c ∷ cs) = flatDoes f (c .found) (c .call) .said ∷ flatAnswers (flatDoes f (c .found) (c .call) .flat) cs
+flatAnswers f (c ∷ cs) = flatDoes f (c .unseen) (c .call) .said ∷ flatAnswers (flatDoes f (c .unseen) (c .call) .flat) cs
 
 unfoldable pub flatEnded : Flat → List Given → Flat
 flatEnded f [] = f
-flatEnded f (c ∷ cs) = flatEnded (flatDoes f (c .found) (c .call) .flat) cs
+flatEnded f (c ∷ cs) = flatEnded (flatDoes f (c .unseen) (c .call) .flat) cs

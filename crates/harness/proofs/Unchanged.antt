@@ -3,15 +3,18 @@ use mathlib.Core.Path.{_≡_, refl, ap, _∙_}
 use mathlib.Core.List.{List, _++_}
 use mathlib.Core.Bool.{false}
 use mathlib.Core.Logic.{_⊎_, inl, inr, ⊎-elim}
-use Prim.Native.Nat.{ℕ, _+_, _<_}
+use Prim.Native.Nat.{ℕ, _+_, _<_, _≤_}
 use native.Mathlib.Omega.{arith}
 use borrow.Author.Tests.{ne-eqb}
 use lib.ListN.{getD, replicate}
 use Rattle.laws.specs.Refusal.{refusal}
 use Rattle.laws.proofs.Refusal.{refusal-0, refusal-hold, refused-or-not, unless-by}
 use Rattle.tracker.specs.declared.Access.{Access}
+use Rattle.tracker.specs.declared.Transfers.{Transfers}
+use Rattle.tracker.specs.Transfers.{none}
 use Rattle.tracker.specs.Answer.{Said, ok, wait, moved, read, done, same, no}
 use Rattle.rules.specs.State.{State, zeroState}
+use Rattle.rules.specs.Copies.{tally}
 use Rattle.rules.specs.Calls as calls
 use Rattle.rules.specs.Calls.{Out, issue, stepNo, step, drain}
 use Rattle.rules.proofs.Keeps.{isNo}
@@ -20,7 +23,7 @@ use Rattle.cache.proofs.Refusals.{step-refused}
 use Rattle.coding.specs.Words.{coded, decoded, trackersCoded, trackerCoded}
 use Rattle.coding.specs.Answer.{refusedBy, numberOf, answerCoded}
 use Rattle.coding.proofs.Inverse.{coded-decoded}
-use Rattle.harness.specs.Calls.{Done, begins, tagFresh, tagOpen, wordTests, called, tagIssue, tagDrain, stepTests, tagStep}
+use Rattle.harness.specs.Calls.{Done, backOf, begins, tagFresh, tagOpen, wordTests, called, tagIssue, tagDrain, stepTests, tagStep}
 
 -- the words and the bytes are as they came
 abbrev pub Same : Done → List ℕ → List ℕ → List ℕ → Type 0
@@ -30,13 +33,24 @@ Same d w bytes memory = (d .words ≡ w) × (d .bytes ≡ bytes) × (d .memory �
 abbrev Stays : Out → State → List ℕ → List ℕ → Type 0
 Stays o s bytes memory = (o .state ≡ s) × (o .bytes ≡ bytes) × (o .memory ≡ memory)
 
+-- a number of a refusal's size is a refusal's, where the write-backs are fewer
+back-refused : (s : Said) (t : Transfers) → t .back < refusedBy 0 → refusedBy 0 ≤ backOf s t → 0 < numberOf s
+back-refused ok t f h = absurd (omega arith)
+back-refused wait t f h = absurd (omega arith)
+back-refused moved t f h = absurd (omega arith)
+back-refused (read v k) t f h = absurd (omega arith)
+back-refused (done k) t f h = absurd (omega arith)
+back-refused (same k) t f h = absurd (omega arith)
+back-refused (no c) t f h = omega arith
+
 -- of issue and drain, from the same of the rules' call
-module _ (f : State → Out) (w bytes memory : List ℕ) (stays : (s : State) → 0 < numberOf (f s .said) → Stays (f s) s bytes memory) where
-  called-same : 0 < called f w bytes memory .number → Same (called f w bytes memory) w bytes memory
+module _ (f : State → Out) (w bytes memory : List ℕ) (few : (s : State) → f s .transfers .back < refusedBy 0)
+    (stays : (s : State) → 0 < numberOf (f s .said) → Stays (f s) s bytes memory) where
+  called-same : refusedBy 0 ≤ called f w bytes memory .number → Same (called f w bytes memory) w bytes memory
   unfolding called
   called-same =
-      unless-by _ _ (λ (d : Done). 0 < d .number → Same d w bytes memory)
-      (λ e h. let q = stays (decoded w) h in
+      unless-by _ _ (λ (d : Done). refusedBy 0 ≤ d .number → Same d w bytes memory)
+      (λ e h. let q = stays (decoded w) (back-refused (f (decoded w) .said) (f (decoded w) .transfers) (few (decoded w)) h) in
       (ap coded (q .0) ∙ coded-decoded w (refusal-hold (wordTests w) refl e .1 .0), q .1, q .2))
       (λ p h. (refl, refl, refl))
 
@@ -46,17 +60,25 @@ module _ (s : State) (bytes memory : List ℕ) where
   issue-stays x a =
       unless-by _ _ (λ (o : Out). 0 < numberOf (o .said) → Stays o s bytes memory) (λ e h. absurd (omega arith)) (λ p h. (refl, refl, refl))
 
+  issue-few : (x : ℕ) (a : Access) → issue s bytes memory x a .transfers .back < refusedBy 0
+  unfolding issue
+  issue-few x a = unless-by _ _ (λ (o : Out). o .transfers .back < refusedBy 0) (λ e. omega arith) (λ p. omega arith)
+
+  drain-few : drain s bytes memory .transfers .back < refusedBy 0
+  unfolding drain tally
+  drain-few = unless-by _ _ (λ (o : Out). o .transfers .back < refusedBy 0) (λ e. omega arith) (λ p. omega arith)
+
   drain-stays : 0 < numberOf (drain s bytes memory .said) → Stays (drain s bytes memory) s bytes memory
   unfolding drain
   drain-stays =
       unless-by _ _ (λ (o : Out). 0 < numberOf (o .said) → Stays o s bytes memory) (λ e h. absurd (omega arith)) (λ p h. (refl, refl, refl))
 
 module _ (w bytes memory : List ℕ) where
-  pub issue-same : (x : ℕ) (a : Access) → 0 < tagIssue w bytes memory x a .number → Same (tagIssue w bytes memory x a) w bytes memory
-  issue-same x a = called-same (λ s. issue s bytes memory x a) w bytes memory (λ s. issue-stays s bytes memory x a)
+  pub issue-same : (x : ℕ) (a : Access) → refusedBy 0 ≤ tagIssue w bytes memory x a .number → Same (tagIssue w bytes memory x a) w bytes memory
+  issue-same x a = called-same (λ s. issue s bytes memory x a) w bytes memory (λ s. issue-few s bytes memory x a) (λ s. issue-stays s bytes memory x a)
 
-  pub drain-same : 0 < tagDrain w bytes memory .number → Same (tagDrain w bytes memory) w bytes memory
-  drain-same = called-same (λ s. drain s bytes memory) w bytes memory (λ s. drain-stays s bytes memory)
+  pub drain-same : refusedBy 0 ≤ tagDrain w bytes memory .number → Same (tagDrain w bytes memory) w bytes memory
+  drain-same = called-same (λ s. drain s bytes memory) w bytes memory (λ s. drain-few s bytes memory) (λ s. drain-stays s bytes memory)
 
 -- of a step
 not-no : (s : Said) → isNo s ≡ false → numberOf s ≡ 0
@@ -84,8 +106,8 @@ module _ (s : State) (bytes memory : List ℕ) (x : ℕ) where
           let r = step-free s bytes memory (q .0) (q .1 .0) x (refusal-0 (calls.stepTests (s .shape) x (s .trackers)) (q .1 .1)) in
           step-not-refused s bytes memory (q .0) (q .1 .0) x (r .0) (r .1)
 
-no-answer : (c : ℕ) (answer : List ℕ) → answerCoded (no c) answer ≡ answer
-no-answer c answer = rw (ne-eqb (refusedBy c) 0 (λ e. absurd (omega arith)))
+no-answer : (c : ℕ) (t : Transfers) (answer : List ℕ) → answerCoded (no c) t answer ≡ answer
+no-answer c t answer = rw (ne-eqb (refusedBy c) 0 (λ e. absurd (omega arith)))
 
 module _ (w bytes memory : List ℕ) (x : ℕ) (answer : List ℕ) where
   pub step-same : 0 < tagStep w bytes memory x answer .0 .number → Same (tagStep w bytes memory x answer .0) w bytes memory × (tagStep w bytes memory x answer .1 ≡ answer)
@@ -93,15 +115,23 @@ module _ (w bytes memory : List ℕ) (x : ℕ) (answer : List ℕ) where
   step-same =
       unless-by _ _ (λ (d : Done × List ℕ). 0 < d .0 .number → Same (d .0) w bytes memory × (d .1 ≡ answer))
       (λ e h. let q = step-stays (decoded w) bytes memory x h in
-      rw (q .1) ((coded-decoded w (refusal-hold (stepTests w answer) refl e .1 .1 .0), refl, refl), no-answer (q .0) answer))
+      rw (q .1) ((coded-decoded w (refusal-hold (stepTests w answer) refl e .1 .1 .0), refl, refl), no-answer (q .0) none answer))
       (λ p h. ((refl, refl, refl), refl))
 
 -- of fresh and open: the zero state's words are zero
-zero-words : coded zeroState ≡ replicate 116 0
+zero-words : coded zeroState ≡ replicate 132 0
 unfolding coded trackersCoded trackerCoded
 zero-words = refl
 
 module _ (n t l : ℕ) (bytes memory : List ℕ) where
+  fresh-few : calls.fresh n t l bytes memory .transfers .back < refusedBy 0
+  unfolding calls.fresh
+  fresh-few = unless-by _ _ (λ (o : Out). o .transfers .back < refusedBy 0) (λ e. omega arith) (λ p. omega arith)
+
+  open-few : calls.opened n t l bytes memory .transfers .back < refusedBy 0
+  unfolding calls.opened
+  open-few = unless-by _ _ (λ (o : Out). o .transfers .back < refusedBy 0) (λ e. omega arith) (λ p. omega arith)
+
   fresh-stays : 0 < numberOf (calls.fresh n t l bytes memory .said) → Stays (calls.fresh n t l bytes memory) zeroState bytes memory
   unfolding calls.fresh
   fresh-stays =
@@ -113,20 +143,21 @@ module _ (n t l : ℕ) (bytes memory : List ℕ) where
       unless-by _ _ (λ (o : Out). 0 < numberOf (o .said) → Stays o zeroState bytes memory) (λ e h. absurd (omega arith)) (λ p h. (refl, refl, refl))
 
 module _ (f : ℕ → ℕ → ℕ → Out) (device w bytes memory : List ℕ) where
-  begins-same : ((n t l : ℕ) → 0 < numberOf (f n t l .said) → Stays (f n t l) zeroState bytes memory)
-      → 0 < begins f device w bytes memory .number
-      → ((begins f device w bytes memory .words ≡ w) ⊎ (begins f device w bytes memory .words ≡ replicate 116 0)) × (begins f device w bytes memory .bytes ≡ bytes) × (begins f device w bytes memory .memory ≡ memory)
+  begins-same : ((n t l : ℕ) → f n t l .transfers .back < refusedBy 0) → ((n t l : ℕ) → 0 < numberOf (f n t l .said) → Stays (f n t l) zeroState bytes memory)
+      → refusedBy 0 ≤ begins f device w bytes memory .number
+      → ((begins f device w bytes memory .words ≡ w) ⊎ (begins f device w bytes memory .words ≡ replicate 132 0)) × (begins f device w bytes memory .bytes ≡ bytes) × (begins f device w bytes memory .memory ≡ memory)
   unfolding begins
-  begins-same stays =
-      unless-by _ _ (λ (d : Done). 0 < d .number → ((d .words ≡ w) ⊎ (d .words ≡ replicate 116 0)) × (d .bytes ≡ bytes) × (d .memory ≡ memory))
-      (λ e h. let q = stays (getD device 0 0) (getD device 1 0) (getD device 2 0) h in (inr (ap coded (q .0) ∙ zero-words), q .1, q .2))
+  begins-same few stays =
+      unless-by _ _ (λ (d : Done). refusedBy 0 ≤ d .number → ((d .words ≡ w) ⊎ (d .words ≡ replicate 132 0)) × (d .bytes ≡ bytes) × (d .memory ≡ memory))
+      (λ e h. let o = f (getD device 0 0) (getD device 1 0) (getD device 2 0) in
+      let q = stays (getD device 0 0) (getD device 1 0) (getD device 2 0) (back-refused (o .said) (o .transfers) (few (getD device 0 0) (getD device 1 0) (getD device 2 0)) h) in (inr (ap coded (q .0) ∙ zero-words), q .1, q .2))
       (λ p h. (inl refl, refl, refl))
 
 module _ (device w bytes memory : List ℕ) where
-  pub fresh-same : 0 < tagFresh device w bytes memory .number
-      → ((tagFresh device w bytes memory .words ≡ w) ⊎ (tagFresh device w bytes memory .words ≡ replicate 116 0)) × (tagFresh device w bytes memory .bytes ≡ bytes) × (tagFresh device w bytes memory .memory ≡ memory)
-  fresh-same = begins-same (λ n t l. calls.fresh n t l bytes memory) device w bytes memory (λ n t l. fresh-stays n t l bytes memory)
+  pub fresh-same : refusedBy 0 ≤ tagFresh device w bytes memory .number
+      → ((tagFresh device w bytes memory .words ≡ w) ⊎ (tagFresh device w bytes memory .words ≡ replicate 132 0)) × (tagFresh device w bytes memory .bytes ≡ bytes) × (tagFresh device w bytes memory .memory ≡ memory)
+  fresh-same = begins-same (λ n t l. calls.fresh n t l bytes memory) device w bytes memory (λ n t l. fresh-few n t l bytes memory) (λ n t l. fresh-stays n t l bytes memory)
 
-  pub open-same : 0 < tagOpen device w bytes memory .number
-      → ((tagOpen device w bytes memory .words ≡ w) ⊎ (tagOpen device w bytes memory .words ≡ replicate 116 0)) × (tagOpen device w bytes memory .bytes ≡ bytes) × (tagOpen device w bytes memory .memory ≡ memory)
-  open-same = begins-same (λ n t l. calls.opened n t l bytes memory) device w bytes memory (λ n t l. open-stays n t l bytes memory)
+  pub open-same : refusedBy 0 ≤ tagOpen device w bytes memory .number
+      → ((tagOpen device w bytes memory .words ≡ w) ⊎ (tagOpen device w bytes memory .words ≡ replicate 132 0)) × (tagOpen device w bytes memory .bytes ≡ bytes) × (tagOpen device w bytes memory .memory ≡ memory)
+  open-same = begins-same (λ n t l. calls.opened n t l bytes memory) device w bytes memory (λ n t l. open-few n t l bytes memory) (λ n t l. open-stays n t l bytes memory)

@@ -16,6 +16,8 @@ use Rattle.laws.proofs.Refusal.{refusal-0, refusal-first, unless-0, unless-no}
 use Rattle.geometry.specs.TagMemory.{groups, mostLeaves, values}
 use Rattle.geometry.proofs.Places.{groups-most}
 use Rattle.line.specs.Find.{lineOf}
+use Rattle.tracker.specs.declared.Transfers.{Transfers}
+use Rattle.tracker.specs.Answer.{Said}
 use Rattle.rules.specs.State.{State, zeroState}
 use Rattle.rules.specs.Whole.{whole}
 use Rattle.rules.specs.Calls.{Out, issueNo, issueTests, issue, step, showNo, show}
@@ -24,14 +26,14 @@ use Rattle.cache.specs.Seen.{unfit}
 use Rattle.cache.proofs.Refusals.{issue-unfit, issue-fit, issue-refused, fit-whole}
 use Rattle.coding.specs.Words.{stateWords, coded, decoded, codes}
 use Rattle.coding.specs.Answer.{refusedBy, numberOf, answerWords, answerCoded}
-use Rattle.harness.specs.Calls.{Done, done, refused, gives, deviceWords, beginTests, begins, wordTests, called, accessOf, stepTests, tagStep, shownAt, tagShow, tagWhole}
+use Rattle.harness.specs.Calls.{Done, backOf, done, refused, gives, stepGives, deviceWords, beginTests, begins, wordTests, called, accessOf, stepTests, tagStep, shownAt, tagShow, tagWhole}
 
 -- the words that a call leaves where there are as many as a state has
 left-words : (w : List ℕ) {r : List ℕ} (v : List ℕ) → length w ≡ stateWords → r ≡ pick (eqb (length w) stateWords) v w → r ≡ v
 left-words w v e q = q ∙ rw (eq-eqb (length w) stateWords e)
 
 -- what a call gives, from what it did
-gives-is : (o : Out) (w : List ℕ) {k : ℕ} {r : List ℕ} → length w ≡ stateWords → k ≡ numberOf (o .said) → r ≡ pick (eqb (length w) stateWords) (coded (o .state)) w
+gives-is : (o : Out) (w : List ℕ) {k : ℕ} {r : List ℕ} → length w ≡ stateWords → k ≡ backOf (o .said) (o .transfers) → r ≡ pick (eqb (length w) stateWords) (coded (o .state)) w
     → done k r (o .bytes) (o .memory) ≡ gives o
 gives-is o w e p q = rw (p, left-words w (coded (o .state)) e q)
 
@@ -142,7 +144,7 @@ module _ (w bytes memory : List ℕ) (x : ℕ) (answer : List ℕ) where
           rw q (unless-no _ _ (omega arith))
 
       pub step-is : codes w ≡ true
-          → tagStep w bytes memory x answer ≡ (gives (step (decoded w) bytes memory x), answerCoded (step (decoded w) bytes memory x .said) answer)
+          → tagStep w bytes memory x answer ≡ stepGives (step (decoded w) bytes memory x) answer
       unfolding tagStep
       step-is c = unless-0 _ _ (refusal-0 (stepTests w answer) (eq-eqb (length w) stateWords e, (eq-eqb (length answer) answerWords a, (c, tt))))
 
@@ -194,23 +196,23 @@ module _ (w : List ℕ) where
 -- what each kind of call leaves, from the promises of the functions that it calls
 module _ (o : Out) {k : ℕ} {r : List ℕ} where
   pub begins-does : (f : ℕ → ℕ → ℕ → Out) (device w bytes memory : List ℕ) → length device ≡ deviceWords → length w ≡ stateWords
-      → o ≡ f (getD device 0 0) (getD device 1 0) (getD device 2 0) → k ≡ numberOf (o .said) → r ≡ pick (eqb (length w) stateWords) (coded (o .state)) w
+      → o ≡ f (getD device 0 0) (getD device 1 0) (getD device 2 0) → k ≡ backOf (o .said) (o .transfers) → r ≡ pick (eqb (length w) stateWords) (coded (o .state)) w
       → done k r (o .bytes) (o .memory) ≡ begins f device w bytes memory
   begins-does f device w bytes memory d e q p l = gives-is o w e p l ∙ ap gives q ∙ sym (begins-is f device w bytes memory d e)
 
   module _ (u : State) (w : List ℕ) (e : length w ≡ stateWords) (c : codes w ≡ true) (s : u ≡ pick (codes w) (decoded w) zeroState) where
-    pub called-does : (f : State → Out) (bytes memory : List ℕ) → o ≡ f u → k ≡ numberOf (o .said) → r ≡ pick (eqb (length w) stateWords) (coded (o .state)) w
+    pub called-does : (f : State → Out) (bytes memory : List ℕ) → o ≡ f u → k ≡ backOf (o .said) (o .transfers) → r ≡ pick (eqb (length w) stateWords) (coded (o .state)) w
         → done k r (o .bytes) (o .memory) ≡ called f w bytes memory
     called-does f bytes memory q p l = gives-is o w e p l ∙ ap gives (q ∙ ap f (decoded-is w c s)) ∙ sym (called-is f w bytes memory (words-0 w e c))
 
     pub step-does : (bytes memory : List ℕ) (x : ℕ) (answer : List ℕ) {a : List ℕ} → length answer ≡ answerWords → o ≡ step u bytes memory x → k ≡ numberOf (o .said)
-        → r ≡ pick (eqb (length w) stateWords) (coded (o .state)) w → a ≡ pick (eqb (length answer) answerWords) (answerCoded (o .said) answer) answer
+        → r ≡ pick (eqb (length w) stateWords) (coded (o .state)) w → a ≡ pick (eqb (length answer) answerWords) (answerCoded (o .said) (o .transfers) answer) answer
         → (done k r (o .bytes) (o .memory), a) ≡ tagStep w bytes memory x answer
     step-does bytes memory x answer {a} h q p l y =
         let z : o ≡ step (decoded w) bytes memory x = q ∙ ap (λ (v : State). step v bytes memory x) (decoded-is w c s) in
-        let g : done k r (o .bytes) (o .memory) ≡ gives o = gives-is o w e p l in
-        let t : a ≡ answerCoded (o .said) answer = y ∙ rw (eq-eqb (length answer) answerWords h) in
-        pair g t ∙ ap (λ (v : Out). (gives v, answerCoded (v .said) answer)) z ∙ sym (step-is w bytes memory x answer e h c)
+        let d : r ≡ coded (o .state) = left-words w (coded (o .state)) e l in
+        let t : a ≡ answerCoded (o .said) (o .transfers) answer = y ∙ rw (eq-eqb (length answer) answerWords h) in
+        pair (rw (p, d)) t ∙ ap (λ (v : Out). stepGives v answer) z ∙ sym (step-is w bytes memory x answer e h c)
       where
         pair : {i j : Done} {m n : List ℕ} → i ≡ j → m ≡ n → _≡_ {A = Done × List ℕ} (i, m) (j, n)
         pair p q = rw (p, q)
@@ -218,3 +220,11 @@ module _ (o : Out) {k : ℕ} {r : List ℕ} where
 -- what a refused call leaves
 pub refuses : {k : ℕ} (c : ℕ) (w bytes memory : List ℕ) → k ≡ refusedBy c → done k w bytes memory ≡ refused c w bytes memory
 refuses c w bytes memory e = rw e
+
+-- a refusal's number, or the write-backs
+module _ (s : Said) (t : Transfers) {c : ℕ} (e : c ≡ numberOf s) where
+  pub back-no : 0 < c → c ≡ backOf s t
+  back-no h = rw (← e, ne-eqb c 0 (λ z. absurd (omega arith))) refl
+
+  pub back-is : c ≡ 0 → t .back ≡ backOf s t
+  back-is z = rw (← e, eq-eqb c 0 z) refl

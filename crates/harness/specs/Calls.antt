@@ -7,6 +7,8 @@ use Rattle.laws.specs.Choice.{pick, both, one}
 use Rattle.laws.specs.Bytes.{part}
 use Rattle.laws.specs.Refusal.{Tests, refusal, unless}
 use Rattle.tracker.specs.declared.Access.{Access}
+use Rattle.tracker.specs.declared.Transfers.{Transfers}
+use Rattle.tracker.specs.Answer.{Said}
 use Rattle.line.specs.Find.{lineOf}
 use Rattle.rules.specs.State.{State}
 use Rattle.rules.specs.Whole.{whole}
@@ -28,9 +30,13 @@ done number words bytes memory = record { number = number; words = words; bytes 
 abbrev pub refused : ℕ → List ℕ → List ℕ → List ℕ → Done
 refused c words bytes memory = done (refusedBy c) words bytes memory
 
--- what a call of the rules did, as words and a number
+-- a refusal's number, or the write-backs
+abbrev pub backOf : Said → Transfers → ℕ
+backOf s t = pick (eqb (numberOf s) 0) (t .back) (numberOf s)
+
+-- what a call of the rules did, as words and a number: "from E4 on `tag_drain` gives its write-backs"; fresh, open and issue have none
 abbrev pub gives : Out → Done
-gives o = done (numberOf (o .said)) (coded (o .state)) (o .bytes) (o .memory)
+gives o = done (backOf (o .said) (o .transfers)) (coded (o .state)) (o .bytes) (o .memory)
 
 -- "`device` a slice of words, 3 of them: n, T, L"
 abbrev pub deviceWords : ℕ
@@ -73,10 +79,13 @@ tagDrain w bytes memory = called (λ s. drain s bytes memory) w bytes memory
 abbrev pub stepTests : List ℕ → List ℕ → Tests
 stepTests w answer = (eqb (length w) stateWords, 2) ∷ (eqb (length answer) answerWords, 2) ∷ (codes w, 4) ∷ []
 
+abbrev pub stepGives : Out → List ℕ → Done × List ℕ
+stepGives o answer = (done (numberOf (o .said)) (coded (o .state)) (o .bytes) (o .memory), answerCoded (o .said) (o .transfers) answer)
+
 unfoldable pub tagStep : List ℕ → List ℕ → List ℕ → ℕ → List ℕ → Done × List ℕ
 tagStep w bytes memory x answer =
     let o = step (decoded w) bytes memory x in
-    unless (refusal (stepTests w answer)) (gives o, answerCoded (o .said) answer) (λ c. (refused c w bytes memory, answer))
+    unless (refusal (stepTests w answer)) (stepGives o answer) (λ c. (refused c w bytes memory, answer))
 
 -- "0 for an empty part, else 1 plus the byte's place, in the line bytes, or 2^40 plus 1 plus the place, in memory"
 unfoldable pub shownAt : State → List ℕ → List ℕ → ℕ → ℕ

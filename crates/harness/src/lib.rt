@@ -13,8 +13,8 @@ ghost use Rattle.geometry.specs.TagMemory.{values};
 ghost use Rattle.tracker.specs.Answer.{says};
 ghost use Rattle.cache.specs.Seen.{seen};
 ghost use Rattle.coding.specs.Words.{stateWords, coded};
-ghost use Rattle.coding.specs.Answer.{refusedBy, numberOf};
-ghost use Rattle.harness.specs.Calls.{done, tagFresh, tagOpen, accessOf, tagIssue, tagDrain, tagStep, shownAt, tagShow, tagWhole};
+ghost use Rattle.coding.specs.Answer.{refusedBy};
+ghost use Rattle.harness.specs.Calls.{backOf, done, tagFresh, tagOpen, accessOf, tagIssue, tagDrain, tagStep, shownAt, tagShow, tagWhole};
 
 // The words of a device: n, T, L.
 pub const DEVICE_WORDS: usize = 3;
@@ -34,12 +34,17 @@ pub fn refused(c: u8) -> u64
 
 // The words of the state that a call hands back, and the number that it gives.
 fn leave(r: Out, state: &mut [u64]) -> u64
-    ensures { λ k. ⌜ (k ≡ numberOf (says (r .answer))) × (now (state .exit) ≡ pick (eqb (length (now (state .entry))) stateWords) (coded (seen (r .state))) (now (state .entry))) ⌝ }
+    ensures { λ k. ⌜ (k ≡ backOf (says (r .answer)) (r .transfers)) × (now (state .exit) ≡ pick (eqb (length (now (state .entry))) stateWords) (coded (seen (r .state))) (now (state .entry))) ⌝ }
 {
     let left = r.state;
     coding::encode(left, state);
     let answer = r.answer;
-    coding::number_of(answer)
+    let c = coding::number_of(answer);
+    if 0 < c {
+        return c;
+    }
+    let t = r.transfers;
+    t.back as u64
 }
 
 // A fresh memory under the device: refusals 2, then 1, 2.
@@ -139,8 +144,11 @@ pub fn step(
     let s = given.state;
     let r = s.step(bytes, memory, x);
     let said = r.answer;
-    coding::put_answer(said, answer);
-    leave(r, state)
+    let transfers = r.transfers;
+    coding::put_answer(said, transfers, answer);
+    let after = r.state;
+    coding::encode(after, state);
+    coding::number_of(said)
 }
 
 // The changed lines are written to memory and marked clean: refusals 2, 4, then those of a drain.

@@ -3,8 +3,10 @@
 use geometry::Geometry;
 use geometry::Shape;
 use outcome::Turned;
+use placing::Spot;
 use tracker::Phase;
 use tracker::Tracker;
+use tracker::Transfers;
 ghost use mathlib.Core.Path.{_≡_};
 ghost use mathlib.Core.List.{List};
 ghost use mathlib.Core.Bool.{true};
@@ -17,7 +19,7 @@ ghost use Rattle.tracker.specs.declared.Phase.the-variants.{Set};
 ghost use Rattle.line.specs.Word.{blockOf, word, heldBy};
 ghost use Rattle.rules.specs.Place.{rowsFit, filled};
 ghost use Rattle.rules.specs.Step.{goes, groupIn, letGo, newLeaf, leafRead, putIn, writeUnder1, writeUnder0};
-ghost use Rattle.placing.specs.Lines.{rows};
+ghost use Rattle.placing.specs.Lines.{rows, brought};
 ghost use Rattle.outcome.specs.Steps.{turned, OnAnyMemory};
 ghost use Rattle.leaf.specs.Leaf.{probeOn, leafOn};
 
@@ -58,19 +60,20 @@ pub fn probe(shape: Shape, t: Tracker, lines: &[u32], bytes: &[u8]) -> Turned
     if !placing::rows_fit(l, lines, bytes) {
         return outcome::refuses(4, shape, t);
     }
+    let none = Transfers::none();
     let g = t.group;
     let i = line::line_of(lines, l, Geometry::leaf_of(g));
     if l <= i {
-        return outcome::goes(shape, t, Phase::Map);
+        return outcome::goes(shape, t, none, Phase::Map);
     }
     let v = group_in(bytes, i, g);
     if !t.write {
-        return outcome::ends_read(shape, t, v);
+        return outcome::ends_read(shape, t, none, v);
     }
     if v == t.value {
-        return outcome::ends_same(shape, t);
+        return outcome::ends_same(shape, t, none);
     }
-    outcome::goes(shape, t, Phase::Map)
+    outcome::goes(shape, t, none, Phase::Map)
 }
 
 // Leaf, read. Bring in the leaf, end with the group, let go. The map block is in line j.
@@ -94,31 +97,25 @@ fn leaf_read(
     }
     let v = group_in(bytes, i, g);
     let_go(lines, j, false);
-    outcome::ends_read(spot.shape, t, v)
+    outcome::ends_read(spot.shape, t, spot.copies, v)
 }
 
-// Put v in, the leaf in line i. All 64 bytes now zero: the line is made free, on to Finish (clear). Else the line is changed, end "done", let go.
-fn put_in(
-    j: usize,
-    i: usize,
-    shape: Shape,
-    t: Tracker,
-    lines: &mut [u32],
-    bytes: &mut [u8],
-) -> Turned
-    requires { ⌜ (j < length (now lines)) × (i < length (now lines)) × (64 * i + 64 ≤ length (now bytes)) ⌝ }
-    ensures { λ r. ⌜ ((m : List ℕ) → turned r (now (lines .exit)) (now (bytes .exit)) m ≡ putIn j t (record { line = i; shape = shape; rows = rows (now (lines .entry)) (now (bytes .entry)) m })) ⌝ }
+// Put v in, the leaf in its line. All 64 bytes now zero: the line is made free, on to Finish (clear). Else the line is changed, end "done", let go.
+fn put_in(j: usize, spot: Spot, t: Tracker, lines: &mut [u32], bytes: &mut [u8]) -> Turned
+    requires { ⌜ (j < length (now lines)) × (spot .line < length (now lines)) × (64 * spot .line + 64 ≤ length (now bytes)) ⌝ }
+    ensures { λ r. ⌜ ((m : List ℕ) → turned r (now (lines .exit)) (now (bytes .exit)) m ≡ putIn j t (brought spot (now (lines .entry)) (now (bytes .entry)) m)) ⌝ }
 {
+    let i = spot.line;
     let g = t.group;
     let at = Geometry::BLOCK_LEN * i;
     block::put_group(bytes, at + Geometry::byte_of(g), t.value);
     if block::all_zero(&bytes[at..at + Geometry::BLOCK_LEN]) {
         lines[i] = 0;
-        return outcome::goes(shape, t, Phase::Clear);
+        return outcome::goes(spot.shape, t, spot.copies, Phase::Clear);
     }
     lines[i] = line::word(Geometry::leaf_of(g), true, 0);
     let_go(lines, j, false);
-    outcome::ends_done(shape, t)
+    outcome::ends_done(spot.shape, t, spot.copies)
 }
 
 // Leaf, write, under bit 1. Bring in the leaf; group equal to v: end "same", let go. Else put v in.
@@ -142,9 +139,9 @@ fn write_under_1(
     }
     if group_in(bytes, i, g) == t.value {
         let_go(lines, j, false);
-        return outcome::ends_same(spot.shape, t);
+        return outcome::ends_same(spot.shape, t, spot.copies);
     }
-    put_in(j, i, spot.shape, t, lines, bytes)
+    put_in(j, spot, t, lines, bytes)
 }
 
 // 64 zero bytes, never fetched, with v put in.
@@ -156,15 +153,16 @@ fn new_leaf(t: Tracker) -> [u8; Geometry::BLOCK_LEN]
     leaf
 }
 
-// The new leaf goes into line i, changed; on to Finish (set).
-fn create(i: usize, shape: Shape, t: Tracker, lines: &mut [u32], bytes: &mut [u8]) -> Turned
-    requires { ⌜ (i < length (now lines)) × (64 * i + 64 ≤ length (now bytes)) ⌝ }
-    ensures { λ r. ⌜ ((m : List ℕ) → turned r (now (lines .exit)) (now (bytes .exit)) m ≡ goes t Set shape (filled (rows (now (lines .entry)) (now (bytes .entry)) m) i (leafOf (t .group)) true (newLeaf t))) ⌝ }
+// The new leaf goes into the line, changed; on to Finish (set).
+fn create(spot: Spot, t: Tracker, lines: &mut [u32], bytes: &mut [u8]) -> Turned
+    requires { ⌜ (spot .line < length (now lines)) × (64 * spot .line + 64 ≤ length (now bytes)) ⌝ }
+    ensures { λ r. ⌜ ((m : List ℕ) → turned r (now (lines .exit)) (now (bytes .exit)) m ≡ goes t Set (spot .copies) (spot .shape) (filled (rows (now (lines .entry)) (now (bytes .entry)) m) (spot .line) (leafOf (t .group)) true (newLeaf t))) ⌝ }
 {
+    let i = spot.line;
     let leaf = new_leaf(t);
     lines[i] = line::word(Geometry::leaf_of(t.group), true, 0);
     block::write_block(bytes, Geometry::BLOCK_LEN * i, &leaf);
-    outcome::goes(shape, t, Phase::Set)
+    outcome::goes(spot.shape, t, spot.copies, Phase::Set)
 }
 
 // Leaf, write, under bit 0. Group equal to v: end "same", let go. Else the leaf goes into its line if it has one, else is placed.
@@ -179,21 +177,27 @@ fn write_under_0(
     requires { ⌜ (j < shape .l) × (shape .l ≤ length (now lines)) × (length (now bytes) ≡ 64 * shape .l) ⌝ }
     ensures { λ r. ⌜ turned r (now (lines .exit)) (now (bytes .exit)) (now (memory .exit)) ≡ writeUnder0 shape j t (rows (now (lines .entry)) (now (bytes .entry)) (now (memory .entry))) ⌝ }
 {
+    let none = Transfers::none();
     if t.value == 0 {
         let_go(lines, j, false);
-        return outcome::ends_same(shape, t);
+        return outcome::ends_same(shape, t, none);
     }
     let l = shape.l;
-    let i = line::line_of(lines, l, Geometry::leaf_of(t.group));
-    if i < l {
-        return create(i, shape, t, lines, bytes);
+    let line = line::line_of(lines, l, Geometry::leaf_of(t.group));
+    if line < l {
+        let spot = Spot {
+            line,
+            shape,
+            copies: none,
+        };
+        return create(spot, t, lines, bytes);
     }
     let spot = placing::place(shape, lines, bytes, memory);
     let at = spot.line;
     if l <= at {
         return outcome::refuses(4, shape, t);
     }
-    create(at, spot.shape, t, lines, bytes)
+    create(spot, t, lines, bytes)
 }
 
 // The rows are of L lines, and j is one of them.

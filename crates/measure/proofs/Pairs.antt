@@ -10,6 +10,7 @@ use Rattle.output.specs.Line.{alikeAt, lineOf}
 use Rattle.measure.specs.Pair.{sameFrom, sameBytes, otherPair, endingPair, pairEnding, pairLines, pairOf}
 use Rattle.output.specs.declared.Line.{Line}
 use Rattle.output.specs.declared.Line.the-variants.{Stray, Plain, Ending}
+use Rattle.output.specs.declared.Counts.{Counts}
 use Rattle.measure.specs.declared.Pair.{Pair}
 
 -- m and n are how many bytes are left from i and from j
@@ -22,22 +23,22 @@ module _ (a : List ℕ) (i : ℕ) (b : List ℕ) (j m n : ℕ) (f : m ≡ length
   unfolding sameFrom both
   other-left h = rw (← f, ← g, ne-eqb m n h)
 
-module _ (a : List ℕ) (k i : ℕ) (b : List ℕ) (l j : ℕ) (r : Bool) where
+module _ (a : List ℕ) (k : Counts) (i : ℕ) (b : List ℕ) (l : Counts) (j : ℕ) (r : Bool) where
   pub same-count :
-      k ≡ l →
+      k .turns ≡ l .turns →
       r ≡ sameBytes a b →
       _≡_ {A = Pair} (record { ending = true; recorded = k; replayed = l; changed = not r }) (endingPair a k i b l j)
   unfolding endingPair
-  same-count h e = rw (eq-eqb k l h, e)
+  same-count h e = rw (eq-eqb (k .turns) (l .turns) h, e)
 
   pub other-count :
-      (k ≡ l → ⊥) →
+      (k .turns ≡ l .turns → ⊥) →
       r ≡ sameFrom a i b j →
       _≡_ {A = Pair} (record { ending = true; recorded = k; replayed = l; changed = not r }) (endingPair a k i b l j)
   unfolding endingPair
-  other-count h e = rw (ne-eqb k l h, e)
+  other-count h e = rw (ne-eqb (k .turns) (l .turns) h, e)
 
-module _ (a : List ℕ) (at k i : ℕ) (b : List ℕ) (there l j : ℕ) where
+module _ (a : List ℕ) (at : ℕ) (k : Counts) (i : ℕ) (b : List ℕ) (there : ℕ) (l : Counts) (j : ℕ) where
   pub pair-apart : (at ≡ there → ⊥) → otherPair a b ≡ pairEnding a at k i b (Ending there l j)
   unfolding pairEnding both
   pair-apart h = rw (ne-eqb at there h)
@@ -53,7 +54,7 @@ module _ (a : List ℕ) (at k i : ℕ) (b : List ℕ) (there l j : ℕ) where
   unfolding pairEnding both
   pair-other q h f e = rw (eq-eqb at there h, ← f, e)
 
-module _ (a : List ℕ) (at k i : ℕ) (b : List ℕ) where
+module _ (a : List ℕ) (at : ℕ) (k : Counts) (i : ℕ) (b : List ℕ) where
   pub pair-plain : otherPair a b ≡ pairEnding a at k i b Plain
   unfolding pairEnding
   pair-plain = refl
@@ -64,7 +65,7 @@ module _ (a : List ℕ) (at k i : ℕ) (b : List ℕ) where
 
 -- x and y are what the two lines were found to be
 module _ (a b : List ℕ) (x y : Line) (f : x ≡ lineOf a) (g : y ≡ lineOf b) where
-  pub lines-ending : (at k i : ℕ) → x ≡ Ending at k i → pairEnding a at k i b y ≡ pairOf a b
+  pub lines-ending : (at : ℕ) (k : Counts) (i : ℕ) → x ≡ Ending at k i → pairEnding a at k i b y ≡ pairOf a b
   unfolding pairOf pairLines
   lines-ending at k i e = rw (← f, ← g, e)
 

@@ -1,4 +1,4 @@
--- The tally of one place after the other is the sheet: each of the five numbers is what its definition over all places says.
+-- The tally of one place after the other is the sheet: each number is what its definition over all places says.
 -- By induction on the places; only the farthest line needs a thought: a place that is farther than all before it is the first of its distance,
 -- and one that is not leaves the first as it was.
 use Prim.Native.Nat.{ℕ, zero, suc, _+_, _<_, _≤_, max}
@@ -17,7 +17,8 @@ use Rattle.laws.proofs.Scan.{first-hit, first-none, first-suc-old}
 use Rattle.laws.proofs.Count.{largest-suc, largest-least, largest-first}
 use Rattle.laws.specs.Count.{sum, largest}
 use Rattle.measure.specs.Pair.{driftOf}
-use Rattle.measure.specs.Sheet.{stay, places, pairAt, endings, drifted, farthest, farthestLine, total, changed, sheet, sheetOf, noTally, added, tallied}
+use Rattle.measure.specs.Sheet.{stay, places, pairAt, endings, drifted, farthest, farthestLine, total, changed, blocks, sheet, sheetOf, noTally, plusBlocks, added, tallied}
+use Rattle.output.specs.declared.Counts.{Counts}
 use Rattle.measure.specs.declared.Pair.{Pair}
 
 pub stay-stay : (x d : ℕ) → stay (x + d) ≡ stay (stay x + d)
@@ -79,8 +80,13 @@ line-suc pair n =
 
 -- ## The tally
 
+blocks-more : (carried : ℕ → Counts) (n : ℕ) → plusBlocks (blocks carried n) (carried n) ≡ blocks carried (suc n)
+unfolding plusBlocks blocks sum
+blocks-more carried n =
+    rw (← stay-stay (sum (λ k. carried k .fetched) n) (carried n .fetched), ← stay-stay (sum (λ k. carried k .back) n) (carried n .back))
+
 start : (pair : ℕ → Pair) → noTally ≡ sheet pair 0
-unfolding sheet endings drifted farthest farthestLine total changed count sum largest first
+unfolding sheet endings drifted farthest farthestLine total changed blocks count sum largest first
 start pair = refl
 
 more : (pair : ℕ → Pair) (n : ℕ) → added (sheet pair n) (pair n) ≡ sheet pair (suc n)
@@ -93,6 +99,8 @@ more pair n =
       ← stay-stay (sum (λ k. driftOf (pair k)) n) (driftOf (pair n)),
       ← stay-stay (count (λ k. pair k .changed) n) (one (pair n .changed)),
       ← stay-stay n 1,
+      blocks-more (λ k. pair k .recorded) n,
+      blocks-more (λ k. pair k .replayed) n,
       add-one n,
     )
 

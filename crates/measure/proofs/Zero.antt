@@ -20,6 +20,7 @@ use Rattle.measure.specs.Pair.{sameFrom, sameBytes, otherPair, endingPai
 use Rattle.measure.specs.Sheet.{places, pairAt, drifted, changed}
 use Rattle.output.specs.declared.Line.{Line}
 use Rattle.output.specs.declared.Line.the-variants.{Stray, Plain, Ending}
+use Rattle.output.specs.declared.Counts.{Counts}
 use Rattle.measure.specs.declared.Pair.{Pair}
 
 -- ## The same bytes
@@ -54,14 +55,14 @@ module _ (a b : List ℕ) where
   unfolding otherPair
   clean-other h = not-false (sameBytes a b) h
 
-  clean-ending : (k i l j : ℕ) → endingPair a k i b l j .changed ≡ false → driftOf (endingPair a k i b l j) ≡ 0 → sameBytes a b ≡ true
+  clean-ending : (k : Counts) (i : ℕ) (l : Counts) (j : ℕ) → endingPair a k i b l j .changed ≡ false → driftOf (endingPair a k i b l j) ≡ 0 → sameBytes a b ≡ true
   unfolding endingPair driftOf
   clean-ending k i l j h d =
-      let e : k ≡ l = omega arith in
-      rw (eq-eqb k l e) at (not-false (pick (eqb k l) (sameBytes a b) (sameFrom a i b j)) h)
+      let e : k .turns ≡ l .turns = omega arith in
+      rw (eq-eqb (k .turns) (l .turns) e) at (not-false (pick (eqb (k .turns) (l .turns)) (sameBytes a b) (sameFrom a i b j)) h)
 
   clean-pick :
-      (t : Bool) (k i l j : ℕ) →
+      (t : Bool) (k : Counts) (i : ℕ) (l : Counts) (j : ℕ) →
       pick t (endingPair a k i b l j) (otherPair a b) .changed ≡ false →
       driftOf (pick t (endingPair a k i b l j) (otherPair a b)) ≡ 0 →
       sameBytes a b ≡ true
@@ -142,11 +143,11 @@ module _ (a : List ℕ) where
   unfolding otherPair
   self-other = ap not (same-bytes-self a)
 
-  self-ending : (k i : ℕ) → endingPair a k i a k i .changed ≡ false
+  self-ending : (k : Counts) (i : ℕ) → endingPair a k i a k i .changed ≡ false
   unfolding endingPair
-  self-ending k i = rw (eq-eqb k k refl) (ap not (same-bytes-self a))
+  self-ending k i = rw (eq-eqb (k .turns) (k .turns) refl) (ap not (same-bytes-self a))
 
-  self-still : (k i : ℕ) → driftOf (endingPair a k i a k i) ≡ 0
+  self-still : (k : Counts) (i : ℕ) → driftOf (endingPair a k i a k i) ≡ 0
   unfolding endingPair driftOf
   self-still k i = omega arith
 
@@ -154,11 +155,11 @@ module _ (a : List ℕ) where
   unfolding otherPair driftOf
   other-still = refl
 
-  self-pick : (t : Bool) (k i : ℕ) → pick t (endingPair a k i a k i) (otherPair a a) .changed ≡ false
+  self-pick : (t : Bool) (k : Counts) (i : ℕ) → pick t (endingPair a k i a k i) (otherPair a a) .changed ≡ false
   self-pick true k i = self-ending k i
   self-pick false k i = self-other
 
-  still-pick : (t : Bool) (k i : ℕ) → driftOf (pick t (endingPair a k i a k i) (otherPair a a)) ≡ 0
+  still-pick : (t : Bool) (k : Counts) (i : ℕ) → driftOf (pick t (endingPair a k i a k i) (otherPair a a)) ≡ 0
   still-pick true k i = self-still k i
   still-pick false k i = other-still
 

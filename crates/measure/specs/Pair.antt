@@ -1,11 +1,12 @@
--- One place of the record and of the replay compared: is it an ending of the same kind and value in both, with which counts, and does it differ in any other way?
+-- One place of the record and of the replay compared: is it an ending of the same kind and value in both, what does it carry in each, and does it differ in any other way?
 use Prim.Native.Nat.{ℕ, _+_, _-_}
 use mathlib.Core.List.{List}
 use mathlib.Core.Bool.{Bool, true, false, not}
 use lib.ListN.{length}
 use lib.Dec.{eqb}
 use Rattle.laws.specs.Choice.{pick, both}
-use Rattle.output.specs.Line.{alikeAt, lineOf}
+use Rattle.output.specs.Line.{alikeAt, lineOf, bare}
+use Rattle.output.specs.declared.Counts.{Counts}
 use Rattle.output.specs.declared.Line.{Line}
 use Rattle.output.specs.declared.Line.the-variants.{Stray, Plain, Ending}
 use Rattle.measure.specs.declared.Pair.{Pair}
@@ -18,24 +19,28 @@ sameFrom a i b j = both (eqb (length a - i) (length b - j)) (alikeAt a i b j (le
 unfoldable pub sameBytes : List ℕ → List ℕ → Bool
 sameBytes a b = sameFrom a 0 b 0
 
+-- what is carried where nothing is
+abbrev pub noCounts : Counts
+noCounts = bare 0
+
 -- no ending of the same kind and value in both: it is changed unless the bytes are the same, lines of replay or not
 unfoldable pub otherPair : List ℕ → List ℕ → Pair
-otherPair a b = record { ending = false; recorded = 0; replayed = 0; changed = not (sameBytes a b) }
+otherPair a b = record { ending = false; recorded = noCounts; replayed = noCounts; changed = not (sameBytes a b) }
 
--- an ending of the same kind and value in both, with the counts k and l: with the same count it is changed unless the bytes are the same,
--- with another count unless the bytes after the count are
-unfoldable pub endingPair : List ℕ → ℕ → ℕ → List ℕ → ℕ → ℕ → Pair
+-- an ending of the same kind and value in both, which carries k and l: with the same turn count it is changed unless the bytes are the same,
+-- with another unless the bytes after the count are
+unfoldable pub endingPair : List ℕ → Counts → ℕ → List ℕ → Counts → ℕ → Pair
 endingPair a k i b l j =
     record {
       ending = true;
       recorded = k;
       replayed = l;
-      changed = not (pick (eqb k l) (sameBytes a b) (sameFrom a i b j));
+      changed = not (pick (eqb (k .turns) (l .turns)) (sameBytes a b) (sameFrom a i b j));
     }
 
--- the record's line is an ending whose count k stands from `at` to i. The replay's is of the same kind and value exactly if all bytes before its count are the same:
+-- the record's line is an ending that carries k, its turn count from `at` to i. The replay's is of the same kind and value exactly if all bytes before its count are the same:
 -- line number, kind, value.
-unfoldable pub pairEnding : List ℕ → ℕ → ℕ → ℕ → List ℕ → Line → Pair
+unfoldable pub pairEnding : List ℕ → ℕ → Counts → ℕ → List ℕ → Line → Pair
 pairEnding a at k i b (Ending at' l j) =
     pick (both (eqb at at') (alikeAt a 0 b 0 at)) (endingPair a k i b l j) (otherPair a b)
 pairEnding a at k i b Plain = otherPair a b
@@ -52,8 +57,14 @@ pairOf a b = pairLines a (lineOf a) b (lineOf b)
 
 -- a place where only one of the two has a line
 abbrev pub onePair : Pair
-onePair = record { ending = false; recorded = 0; replayed = 0; changed = true }
+onePair = record { ending = false; recorded = noCounts; replayed = noCounts; changed = true }
 
--- how far a pair drifts: the difference of its counts, up or down; 0 where it is no ending of the same kind and value
+-- how far a pair drifts: the difference of its turn counts, up or down; 0 where it is no ending of the same kind and value
 unfoldable pub driftOf : Pair → ℕ
-driftOf p = pick (p .ending) ((p .recorded - p .replayed) + (p .replayed - p .recorded)) 0
+driftOf p = pick (p .ending) ((p .recorded .turns - p .replayed .turns) + (p .replayed .turns - p .recorded .turns)) 0
+
+-- its transfers differ: both tell them, and blocks fetched or blocks written back are others
+unfoldable pub otherTransfers : Pair → Bool
+otherTransfers p =
+    both (both (p .recorded .told) (p .replayed .told))
+    (not (both (eqb (p .recorded .fetched) (p .replayed .fetched)) (eqb (p .recorded .back) (p .replayed .back))))

@@ -1,4 +1,4 @@
--- The five numbers over two lists of lines, the record's and the replay's, and the tally that takes one place after the other.
+-- The sheet's numbers over two lists of lines, the record's and the replay's, and the tally that takes one place after the other.
 -- No sum can wrap: each number stays at 2^64 - 1 once there.
 use Prim.Native.Nat.{ℕ, zero, suc, _+_, min, max}
 use mathlib.Core.List.{List, []}
@@ -8,7 +8,9 @@ use Rattle.laws.specs.Choice.{pick, both, one}
 use Rattle.laws.specs.Scan.{first, count}
 use Rattle.laws.specs.Count.{sum, largest}
 use Rattle.measure.specs.Pair.{pairOf, onePair, driftOf}
+use Rattle.output.specs.declared.Counts.{Counts}
 use Rattle.measure.specs.declared.Pair.{Pair}
+use Rattle.measure.specs.declared.Blocks.{Blocks}
 use Rattle.measure.specs.declared.Tally.{Tally}
 
 -- a number as a u64 holds it: it stays at 2^64 - 1 once there
@@ -25,7 +27,7 @@ places xs ys = max (length xs) (length ys)
 unfoldable pub pairAt : List (List ℕ) → List (List ℕ) → ℕ → Pair
 pairAt xs ys k = pick (both (ltb k (length xs)) (ltb k (length ys))) (pairOf (getD xs k []) (getD ys k [])) onePair
 
--- ## The five numbers, over the pairs at the places below n
+-- ## The numbers, over the pairs at the places below n
 
 -- endings E: of the same kind and value in both
 unfoldable pub endings : (ℕ → Pair) → ℕ → ℕ
@@ -51,7 +53,11 @@ total pair n = sum (λ k. driftOf (pair k)) n
 unfoldable pub changed : (ℕ → Pair) → ℕ → ℕ
 changed pair n = count (λ k. pair k .changed) n
 
--- the sheet: the number of places and the five
+-- blocks fetched and blocks written back, of what each place carries
+unfoldable pub blocks : (ℕ → Counts) → ℕ → Blocks
+blocks carried n = record { fetched = stay (sum (λ k. carried k .fetched) n); back = stay (sum (λ k. carried k .back) n) }
+
+-- the sheet: the number of places, the five, and the blocks of the record's endings and of the replay's
 unfoldable pub sheet : (ℕ → Pair) → ℕ → Tally
 sheet pair n =
     record {
@@ -62,6 +68,8 @@ sheet pair n =
       line = stay (farthestLine pair n);
       total = stay (total pair n);
       changed = stay (changed pair n);
+      recorded = blocks (λ k. pair k .recorded) n;
+      replayed = blocks (λ k. pair k .replayed) n;
     }
 
 -- of a record and a replay, each the list of its lines
@@ -70,8 +78,15 @@ sheetOf xs ys = sheet (pairAt xs ys) (places xs ys)
 
 -- ## The tally
 
+abbrev pub noBlocks : Blocks
+noBlocks = record { fetched = 0; back = 0 }
+
 abbrev pub noTally : Tally
-noTally = record { lines = 0; endings = 0; drifted = 0; farthest = 0; line = 0; total = 0; changed = 0 }
+noTally = record { lines = 0; endings = 0; drifted = 0; farthest = 0; line = 0; total = 0; changed = 0; recorded = noBlocks; replayed = noBlocks }
+
+-- those of one more ending
+unfoldable pub plusBlocks : Blocks → Counts → Blocks
+plusBlocks b c = record { fetched = stay (b .fetched + c .fetched); back = stay (b .back + c .back) }
 
 -- one more place
 unfoldable pub added : Tally → Pair → Tally
@@ -84,6 +99,8 @@ added t p =
       line = pick (ltb (t .farthest) (driftOf p)) (stay (t .lines + 1)) (t .line);
       total = stay (t .total + driftOf p);
       changed = stay (t .changed + one (p .changed));
+      recorded = plusBlocks (t .recorded) (p .recorded);
+      replayed = plusBlocks (t .replayed) (p .replayed);
     }
 
 -- one place after the other, n of them

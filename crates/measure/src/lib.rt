@@ -1,19 +1,20 @@
-// The measurement: two lines of replay's output compared, and the five numbers over two lists of lines.
+// The measurement: two lines of replay's output compared, and the sheet's numbers over two lists of lines.
 // No public function has a `requires`. A line is its bytes, newline apart.
 ghost use mathlib.Core.Path.{_≡_};
 ghost use Prim.Native.Nat.{_+_, _-_};
 ghost use Rattle.laws.specs.Choice.{one};
-ghost use Rattle.measure.specs.Pair.{sameFrom, sameBytes, otherPair, endingPair, pairEnding, pairOf, onePair, driftOf};
-ghost use Rattle.measure.specs.Sheet.{stay, noTally, added};
+ghost use Rattle.measure.specs.Pair.{sameFrom, sameBytes, noCounts, otherPair, endingPair, pairEnding, pairOf, onePair, driftOf, otherTransfers};
+ghost use Rattle.measure.specs.Sheet.{stay, noBlocks, plusBlocks, noTally, added};
+use output::Counts;
 use output::Line;
 
 // One place of the record and of the replay compared.
 pub struct Pair {
     // it is an ending of the same kind and value in both
     pub ending: bool,
-    // its count in the record and in the replay; 0 where it is none
-    pub recorded: u32,
-    pub replayed: u32,
+    // what it carries in the record and in the replay; nothing where it is none
+    pub recorded: Counts,
+    pub replayed: Counts,
     // it differs in any other way, or only one has it
     pub changed: bool,
 }
@@ -43,22 +44,33 @@ fn same_bytes(a: &[u8], b: &[u8]) -> bool
     same_from(a, 0, b, 0)
 }
 
+fn no_counts() -> Counts
+    ensures { λ r. ⌜ r ≡ noCounts ⌝ }
+{
+    Counts {
+        turns: 0,
+        told: false,
+        fetched: 0,
+        back: 0,
+    }
+}
+
 fn other_pair(a: &[u8], b: &[u8]) -> Pair
     ensures { λ r. ⌜ r ≡ otherPair (now (a .entry)) (now (b .entry)) ⌝ }
 {
     let same = same_bytes(a, b);
     Pair {
         ending: false,
-        recorded: 0,
-        replayed: 0,
+        recorded: no_counts(),
+        replayed: no_counts(),
         changed: !same,
     }
 }
 
-fn ending_pair(a: &[u8], k: u32, i: usize, b: &[u8], l: u32, j: usize) -> Pair
+fn ending_pair(a: &[u8], k: Counts, i: usize, b: &[u8], l: Counts, j: usize) -> Pair
     ensures { λ r. ⌜ r ≡ endingPair (now (a .entry)) k i (now (b .entry)) l j ⌝ }
 {
-    if k == l {
+    if k.turns == l.turns {
         let same = same_bytes(a, b);
         return Pair {
             ending: true,
@@ -77,13 +89,13 @@ fn ending_pair(a: &[u8], k: u32, i: usize, b: &[u8], l: u32, j: usize) -> Pair
 }
 
 // The record's line is an ending.
-fn pair_ending(a: &[u8], at: usize, k: u32, i: usize, b: &[u8], y: Line) -> Pair
+fn pair_ending(a: &[u8], at: usize, k: Counts, i: usize, b: &[u8], y: Line) -> Pair
     ensures { λ r. ⌜ r ≡ pairEnding (now (a .entry)) at k i (now (b .entry)) y ⌝ }
 {
     match y {
         Line::Ending {
             at: there,
-            turns: l,
+            counts: l,
             next: j,
         } => {
             if at != there {
@@ -106,13 +118,19 @@ pub fn compare(recorded: &[u8], replayed: &[u8]) -> Pair
     let x = output::read(recorded);
     let y = output::read(replayed);
     match x {
-        Line::Ending { at, turns, next } => pair_ending(recorded, at, turns, next, replayed, y),
+        Line::Ending { at, counts, next } => pair_ending(recorded, at, counts, next, replayed, y),
         Line::Plain => other_pair(recorded, replayed),
         Line::Stray => other_pair(recorded, replayed),
     }
 }
 
-// The five numbers, and how many places they are of. Each stays at 2^64 - 1 once there.
+// Blocks fetched and blocks written back, of many endings.
+pub struct Blocks {
+    pub fetched: u64,
+    pub back: u64,
+}
+
+// The sheet's numbers, and how many places they are of. Each stays at 2^64 - 1 once there.
 pub struct Tally {
     pub lines: u64,
     pub endings: u64,
@@ -121,6 +139,8 @@ pub struct Tally {
     pub line: u64,
     pub total: u64,
     pub changed: u64,
+    pub recorded: Blocks,
+    pub replayed: Blocks,
 }
 
 // x + d, which stays at 2^64 - 1 once there.
@@ -146,20 +166,30 @@ impl Pair {
     {
         Pair {
             ending: false,
-            recorded: 0,
-            replayed: 0,
+            recorded: no_counts(),
+            replayed: no_counts(),
             changed: true,
         }
     }
 
-    // How far its counts are apart, up or down; 0 where it is no ending of the same kind and value.
+    // How far its turn counts are apart, up or down; 0 where it is no ending of the same kind and value.
     pub fn drift(self) -> u32
         ensures { λ r. ⌜ r ≡ driftOf self ⌝ }
     {
         if self.ending {
-            return apart(self.recorded, self.replayed);
+            return apart(self.recorded.turns, self.replayed.turns);
         }
         0
+    }
+
+    // Whether both tell transfers, and one of the two sums is another.
+    pub fn other_transfers(self) -> bool
+        ensures { λ r. ⌜ r ≡ otherTransfers self ⌝ }
+    {
+        let fetched = self.recorded.fetched == self.replayed.fetched;
+        let back = self.recorded.back == self.replayed.back;
+        let same = laws::both(fetched, back);
+        laws::both(laws::both(self.recorded.told, self.replayed.told), !same)
     }
 }
 
@@ -175,6 +205,27 @@ fn long(x: u32) -> u64
     x as u64
 }
 
+impl Blocks {
+    fn none() -> Blocks
+        ensures { λ r. ⌜ r ≡ noBlocks ⌝ }
+    {
+        Blocks {
+            fetched: 0,
+            back: 0,
+        }
+    }
+
+    // Those of one more ending.
+    fn plus(self, counts: Counts) -> Blocks
+        ensures { λ r. ⌜ r ≡ plusBlocks self counts ⌝ }
+    {
+        Blocks {
+            fetched: more(self.fetched, long(counts.fetched)),
+            back: more(self.back, long(counts.back)),
+        }
+    }
+}
+
 impl Tally {
     // Of no place.
     pub fn new() -> Tally
@@ -188,6 +239,8 @@ impl Tally {
             line: 0,
             total: 0,
             changed: 0,
+            recorded: Blocks::none(),
+            replayed: Blocks::none(),
         }
     }
 
@@ -195,6 +248,8 @@ impl Tally {
     pub fn add(self, pair: Pair) -> Tally
         ensures { λ r. ⌜ r ≡ added self pair ⌝ }
     {
+        let recorded = self.recorded.plus(pair.recorded);
+        let replayed = self.replayed.plus(pair.replayed);
         let d = long(pair.drift());
         let lines = more(self.lines, 1);
         let endings = more(self.endings, counted(pair.ending));
@@ -210,6 +265,8 @@ impl Tally {
                 line: lines,
                 total,
                 changed,
+                recorded,
+                replayed,
             };
         }
         Tally {
@@ -220,6 +277,8 @@ impl Tally {
             line: self.line,
             total,
             changed,
+            recorded,
+            replayed,
         }
     }
 }

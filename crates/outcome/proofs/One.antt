@@ -3,6 +3,7 @@ use mathlib.Core.Path.{_≡_, sym, ap, _∙_}
 use mathlib.Core.List.{List, []}
 use Prim.Native.Nat.{ℕ}
 use Rattle.geometry.specs.declared.Shape.{Shape}
+use Rattle.tracker.specs.declared.Transfers.{Transfers}
 use Rattle.tracker.specs.declared.Tracker.{Tracker}
 use Rattle.tracker.specs.declared.Answer.{Answer}
 use Rattle.tracker.proofs.One.{says-one}
@@ -13,19 +14,20 @@ use Rattle.outcome.specs.declared.Turned as left
 use Rattle.outcome.specs.Steps.{turned, OnAnyRows}
 
 -- what is left beside the rows, by its parts
-same-left : (r s : left.Turned) → r .shape ≡ s .shape → r .tracker ≡ s .tracker → r .answer ≡ s .answer → r ≡ s
-same-left r s h t a =
-    ap (λ (x : Shape). parts x (r .tracker) (r .answer)) h ∙ ap (λ (x : Tracker). parts (s .shape) x (r .answer)) t ∙ ap (λ (x : Answer). parts (s .shape) (s .tracker) x) a
+same-left : (r s : left.Turned) → r .shape ≡ s .shape → r .tracker ≡ s .tracker → r .answer ≡ s .answer → r .transfers ≡ s .transfers → r ≡ s
+same-left r s h t a m =
+    ap (λ (x : Shape). parts x (r .tracker) (r .answer) (r .transfers)) h ∙ ap (λ (x : Tracker). parts (s .shape) x (r .answer) (r .transfers)) t
+    ∙ ap (λ (x : Answer). parts (s .shape) (s .tracker) x (r .transfers)) a ∙ ap (λ (x : Transfers). parts (s .shape) (s .tracker) (s .answer) x) m
   where
-    parts : Shape → Tracker → Answer → left.Turned
-    parts h t a = record { shape = h; tracker = t; answer = a }
+    parts : Shape → Tracker → Answer → Transfers → left.Turned
+    parts h t a m = record { shape = h; tracker = t; answer = a; transfers = m }
 
 module _ {want : Turned} (r s : left.Turned) (ls bs m ls′ bs′ m′ : List ℕ) (p : turned r ls bs m ≡ want) (q : turned s ls′ bs′ m′ ≡ want) where
   alike : turned r ls bs m ≡ turned s ls′ bs′ m′
   alike = p ∙ sym q
 
   pub turned-one : r ≡ s
-  turned-one = same-left r s (ap (λ (y : Turned). y .shape) alike) (ap (λ (y : Turned). y .tracker) alike) (says-one _ _ (ap (λ (y : Turned). y .said) alike))
+  turned-one = same-left r s (ap (λ (y : Turned). y .shape) alike) (ap (λ (y : Turned). y .tracker) alike) (says-one _ _ (ap (λ (y : Turned). y .said) alike)) (ap (λ (y : Turned). y .transfers) alike)
 
   pub rows-one : rows ls bs m ≡ rows ls′ bs′ m′
   rows-one = ap (λ (y : Turned). y .rows) alike

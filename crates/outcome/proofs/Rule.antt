@@ -2,6 +2,8 @@
 use mathlib.Core.Path.{_≡_, refl, sym, _∙_}
 use Prim.Native.Nat.{ℕ}
 use Rattle.geometry.specs.declared.Shape.{Shape}
+use Rattle.tracker.specs.declared.Transfers.{Transfers}
+use Rattle.tracker.specs.declared.Tracker.{Tracker}
 use Rattle.tracker.specs.Answer.{Said}
 use Rattle.rules.specs.State.{Rows}
 use Rattle.rules.specs.Step.{Turned, ends}
@@ -10,5 +12,5 @@ pub by-rule : {want rule left : Turned} → want ≡ rule → left ≡ rule → 
 by-rule e s = s ∙ sym e
 
 -- an ending carries its turns
-pub ends-turns : (said : ℕ → Said) {k turns : ℕ} (shape : Shape) (r : Rows) → k ≡ turns → ends (said turns) shape r ≡ ends (said k) shape r
-ends-turns said shape r e = rw e refl
+pub ends-turns : (said : ℕ → Said) {k turns : ℕ} (shape : Shape) (t : Tracker) (more : Transfers) (r : Rows) → k ≡ turns → ends (said turns) shape t more r ≡ ends (said k) shape t more r
+ends-turns said shape t more r e = rw e refl

@@ -16,11 +16,13 @@ use Rattle.laws.proofs.Choice.{both-true, both-false-left, both-false-right}
 use Rattle.laws.proofs.Splice.{lt-or-ge}
 use Rattle.laws.proofs.Scan.{all-is}
 use Rattle.tracker.specs.Answer.{Said, ok, wait, moved, read, done, same, no}
-use Rattle.text.specs.Words.{space, okWord, waitWord, movedWord, noWord, turnsWord, doneWord, sameWord, readWord}
-use Rattle.text.specs.Text.{digitText, digits, places, decimal, hex, turns, saidText, Narrow, answerLine}
+use Rattle.tracker.specs.declared.Transfers.{Transfers}
+use Rattle.text.specs.Words.{space, okWord, waitWord, movedWord, noWord, turnsWord, doneWord, sameWord, readWord, inWord, outWord}
+use Rattle.text.specs.Text.{digitText, digits, places, decimal, hex, turns, saidText, Narrow, transfersText, gains, Few, answerLine}
 use Rattle.text.proofs.Numbers.{pow-pos, rest-more, length-digits, length-decimal, places-high, places-low, places-some}
-use Rattle.output.specs.Line.{hasAt, endsAt, digitOf, digitAt, digitsFrom, numberAt, lastOf, hexOf, valueAt, closesAt, plainAt, readsAt, countAt, restAt, endingOf, answerAt, afterNumber, lineOf, endingAt, lineFor}
+use Rattle.output.specs.Line.{hasAt, endsAt, digitOf, digitAt, digitsFrom, numberAt, lastOf, hexOf, valueAt, closesAt, plainAt, readsAt, countAt, numberIs, outOf, restAt, endingWith, endingOf, answerAt, afterNumber, lineOf, endingAt, lineFor}
 use Rattle.output.specs.declared.Number.the-variants.{Is}
+use Rattle.output.specs.declared.Tail.the-variants.{Told}
 use Rattle.output.specs.declared.Line.the-variants.{Plain}
 use Rattle.output.proofs.Lines.{alike-all, alike-miss, digits-stop, digits-go}
 
@@ -162,6 +164,58 @@ last-back v s p at l e =
     let q : s ≡ p ++ (decimal v ++ []) = e ∙ ap (λ (x : List ℕ). p ++ x) (sym (append-nil (decimal v))) in
     number-back v s p [] at l q (digit-end s (at + places v) (omega (arith, length-is s p (decimal v) at e l, length-decimal v)))
 
+-- a number with a space after it
+space-back : (v : ℕ) (s p t : List ℕ) (at : ℕ) → length p ≡ at → s ≡ p ++ (decimal v ++ (32 ∷ t)) → numberAt s at ≡ Is (min v 65536) (at + places v)
+space-back v s p t at l e =
+    let q : s ≡ (p ++ decimal v) ++ (32 ∷ t) = e ∙ sym (append-assoc p (decimal v) (32 ∷ t)) in
+    let m : length (p ++ decimal v) ≡ at + places v = omega (arith, length-append p (decimal v), length-decimal v) in
+    let z : at + places v + 0 ≡ at + places v = omega arith in
+    let g : getD s (at + places v) 0 ≡ 32 = rw z at (piece-at s (p ++ decimal v) (32 ∷ t) (at + places v) 0 q m) in
+    number-back v s p (32 ∷ t) at l e (digit-space s (at + places v) (omega (arith, length-is s (p ++ decimal v) (32 ∷ t) (at + places v) q m)) g)
+
+-- ## The transfers
+
+-- I and O behind their words, from `at` on
+module _ (s p : List ℕ) (at i o : ℕ) (l : length p ≡ at) (e : s ≡ p ++ (inWord ++ (decimal i ++ (outWord ++ decimal o)))) (bi : i < 256) (bo : o < 256) where
+  to-out : s ≡ ((p ++ inWord) ++ decimal i) ++ (outWord ++ decimal o)
+  to-out = e ∙ sym (append-assoc p inWord (decimal i ++ (outWord ++ decimal o))) ∙ sym (append-assoc (p ++ inWord) (decimal i) (outWord ++ decimal o))
+
+  past-in : length (p ++ inWord) ≡ at + 4
+  past-in = omega (arith, length-append p inWord)
+
+  past-fetched : length ((p ++ inWord) ++ decimal i) ≡ at + 4 + places i
+  past-fetched = omega (arith, past-in, length-append (p ++ inWord) (decimal i), length-decimal i)
+
+  past-out : length (((p ++ inWord) ++ decimal i) ++ outWord) ≡ at + 4 + places i + 5
+  past-out = omega (arith, past-fetched, length-append ((p ++ inWord) ++ decimal i) outWord)
+
+  fetched-back : numberAt s (at + 4) ≡ Is i (at + 4 + places i)
+  fetched-back =
+      let q : min i 65536 ≡ i = omega arith in
+      rw q at (space-back i s (p ++ inWord) _ (at + 4) past-in (e ∙ sym (append-assoc p inWord (decimal i ++ (outWord ++ decimal o)))))
+
+  back-back : numberAt s (at + 4 + places i + 5) ≡ Is o (at + 4 + places i + 5 + places o)
+  back-back =
+      let q : min o 65536 ≡ o = omega arith in
+      rw q at (last-back o s (((p ++ inWord) ++ decimal i) ++ outWord) (at + 4 + places i + 5) past-out (to-out ∙ sym (append-assoc ((p ++ inWord) ++ decimal i) outWord (decimal o))))
+
+  closes-back : closesAt s (at + 4 + places i) outWord ≡ true
+  unfolding closesAt lastOf
+  closes-back =
+      let n : at + 4 + places i + 5 + places o ≡ length s = omega (arith, length-is s ((p ++ inWord) ++ decimal i) (outWord ++ decimal o) (at + 4 + places i) to-out past-fetched, length-decimal o) in
+      both-true _ _ (word-at s ((p ++ inWord) ++ decimal i) outWord (decimal o) (at + 4 + places i) to-out past-fetched)
+      (rw back-back (both-true _ _ (lt-ltb o 65536 (omega arith)) (eq-eqb (at + 4 + places i + 5 + places o) (length s) n)))
+
+  out-back : outOf s (Is i (at + 4 + places i)) ≡ Told i o
+  unfolding outOf numberIs both
+  out-back = rw (lt-ltb i 65536 (omega arith), closes-back, back-back) refl
+
+  rest-back : restAt s at ≡ Told i o
+  unfolding restAt
+  rest-back =
+      let n : (at ≡ length s) → ⊥ = λ q. omega (arith, length-is s p (inWord ++ (decimal i ++ (outWord ++ decimal o))) at e l) in
+      rw (ne-eqb at (length s) n, word-at s p inWord (decimal i ++ (outWord ++ decimal o)) at e l, fetched-back) out-back
+
 -- ## A value
 
 hex-back : (d : ℕ) → d < 16 → hexOf (digitText d) ≡ true
@@ -196,26 +250,20 @@ value-back v s p t at l e =
 -- ## A line
 
 -- whatever is said, it is read from behind the line number and its space
-module _ (n : ℕ) (said : Said) where
-  line-parts : answerLine n said ≡ decimal n ++ (space ++ saidText said)
+module _ (n : ℕ) (said : Said) (t : Transfers) where
+  line-parts : answerLine n said t ≡ decimal n ++ (space ++ (saidText said ++ gains said t))
   unfolding answerLine
   line-parts = refl
 
-  line-long : length (answerLine n said) ≡ places n + (1 + length (saidText said))
-  line-long = omega (arith, length-is (answerLine n said) (decimal n) (space ++ saidText said) (places n) line-parts (length-decimal n))
-
-  line-number : numberAt (answerLine n said) 0 ≡ Is (min n 65536) (places n)
+  line-number : numberAt (answerLine n said t) 0 ≡ Is (min n 65536) (places n)
   line-number =
-      let z : places n + 0 ≡ places n = omega arith in
       let c : 0 + places n ≡ places n = omega arith in
-      let g : getD (answerLine n said) (places n) 0 ≡ 32 = rw z at (piece-at (answerLine n said) (decimal n) (space ++ saidText said) (places n) 0 line-parts (length-decimal n)) in
-      let d : digitAt (answerLine n said) (0 + places n) ≡ 10 = rw c (digit-space (answerLine n said) (places n) (omega (arith, line-long)) g) in
-      rw c at (number-back n (answerLine n said) [] (space ++ saidText said) 0 refl line-parts d)
+      rw c at (space-back n (answerLine n said t) [] (saidText said ++ gains said t) 0 refl line-parts)
 
-  line-answer : lineOf (answerLine n said) ≡ answerAt (answerLine n said) (places n + 1)
+  line-answer : lineOf (answerLine n said t) ≡ answerAt (answerLine n said t) (places n + 1)
   unfolding lineOf afterNumber
   line-answer =
-      let h : hasAt (answerLine n said) (places n) space ≡ true = word-at (answerLine n said) (decimal n) space (saidText said) (places n) line-parts (length-decimal n) in
+      let h : hasAt (answerLine n said t) (places n) space ≡ true = word-at (answerLine n said t) (decimal n) space (saidText said ++ gains said t) (places n) line-parts (length-decimal n) in
       rw (line-number, h) refl
 
 -- what is said stands from `at` on, behind the bytes f
@@ -262,84 +310,89 @@ module _ (s f : List ℕ) (at : ℕ) (l : length f ≡ at) where
       rw (not-ends s at okWord (other-at s at okWord 110 b (omega arith) (λ (q : 110 ≡ 111). omega arith)), not-ends s at waitWord (other-at s at waitWord 110 b (omega arith) (λ (q : 110 ≡ 119). omega arith)), not-ends s at movedWord (other-at s at movedWord 110 b (omega arith) (λ (q : 110 ≡ 109). omega arith)))
       (both-true _ _ (word-at s f noWord (decimal c) at e l) (rw r (both-true _ _ (lt-ltb c 65536 h) (eq-eqb (at + 3 + places c) (length s) n))))
 
-  -- an ending: none of those, and its count with nothing after it
+  -- an ending: none of those, and its count with the transfers after it
   not-plain : (b : ℕ) → getD s at 0 ≡ b → (b ≡ 111 → ⊥) → (b ≡ 119 → ⊥) → (b ≡ 109 → ⊥) → (b ≡ 110 → ⊥) → plainAt s at ≡ false
   unfolding plainAt either
   not-plain b e o w m n =
       rw (not-ends s at okWord (other-at s at okWord b e (omega arith) o), not-ends s at waitWord (other-at s at waitWord b e (omega arith) w), not-ends s at movedWord (other-at s at movedWord b e (omega arith) m), not-closes s at noWord (other-at s at noWord b e (omega arith) n)) refl
 
-  ending-back : (c k : ℕ) (p : List ℕ) → plainAt s at ≡ false → countAt s at ≡ c → 0 < c → length p ≡ c → s ≡ p ++ decimal k → k < 65536 → answerAt s at ≡ endingAt c k
-  unfolding answerAt endingOf restAt either both
-  ending-back c k p h d z m e b =
+  ending-back : (c k : ℕ) (t : Transfers) (p : List ℕ) → plainAt s at ≡ false → countAt s at ≡ c → 0 < c → length p ≡ c → s ≡ p ++ (decimal k ++ transfersText t) → k < 65536 → Few t
+      → answerAt s at ≡ endingAt c k t
+  unfolding answerAt endingOf endingWith transfersText
+  ending-back c k t p h d z m e b w =
       let i : min k 65536 ≡ k = omega arith in
-      let r : numberAt s c ≡ Is k (c + places k) = rw i at (last-back k s p c m e) in
-      let n : c + places k ≡ length s = omega (arith, length-is s p (decimal k) c e m, length-decimal k) in
-      rw (h, d, ne-eqb c 0 (λ (q : c ≡ 0). omega arith), r, lt-ltb k 65536 b, eq-eqb (c + places k) (length s) n) refl
+      let r : numberAt s c ≡ Is k (c + places k) = rw i at (space-back k s p _ c m e) in
+      let n : length (p ++ decimal k) ≡ c + places k = omega (arith, length-append p (decimal k), length-decimal k) in
+      let q : restAt s (c + places k) ≡ Told (t .fetched) (t .back) =
+      rest-back s (p ++ decimal k) (c + places k) (t .fetched) (t .back) n (e ∙ sym (append-assoc p (decimal k) (transfersText t))) (w .0) (w .1) in
+      rw (h, d, ne-eqb c 0 (λ (q : c ≡ 0). omega arith), r, lt-ltb k 65536 b, q) refl
 
   done-count : hasAt s at (doneWord ++ turnsWord) ≡ true → countAt s at ≡ at + 11
   unfolding countAt either
   done-count h = rw h refl
 
-  done-back : (k : ℕ) → s ≡ f ++ ((doneWord ++ turnsWord) ++ decimal k) → k < 65536 → answerAt s at ≡ endingAt (at + 11) k
-  done-back k e b =
-      let g : getD s at 0 ≡ 100 = byte-at ((doneWord ++ turnsWord) ++ decimal k) e in
-      let h : hasAt s at (doneWord ++ turnsWord) ≡ true = word-at s f (doneWord ++ turnsWord) (decimal k) at e l in
+  done-back : (k : ℕ) (t : Transfers) → s ≡ f ++ ((doneWord ++ turnsWord) ++ (decimal k ++ transfersText t)) → k < 65536 → Few t → answerAt s at ≡ endingAt (at + 11) k t
+  done-back k t e b w =
+      let g : getD s at 0 ≡ 100 = byte-at ((doneWord ++ turnsWord) ++ (decimal k ++ transfersText t)) e in
+      let h : hasAt s at (doneWord ++ turnsWord) ≡ true = word-at s f (doneWord ++ turnsWord) (decimal k ++ transfersText t) at e l in
       let m : length (f ++ (doneWord ++ turnsWord)) ≡ at + 11 = omega (arith, length-append f (doneWord ++ turnsWord)) in
-      ending-back (at + 11) k (f ++ (doneWord ++ turnsWord))
+      ending-back (at + 11) k t (f ++ (doneWord ++ turnsWord))
       (not-plain 100 g (λ (q : 100 ≡ 111). omega arith) (λ (q : 100 ≡ 119). omega arith) (λ (q : 100 ≡ 109). omega arith) (λ (q : 100 ≡ 110). omega arith))
-      (done-count h) (omega arith) m (e ∙ sym (append-assoc f (doneWord ++ turnsWord) (decimal k))) b
+      (done-count h) (omega arith) m (e ∙ sym (append-assoc f (doneWord ++ turnsWord) (decimal k ++ transfersText t))) b w
 
   same-count : hasAt s at (doneWord ++ turnsWord) ≡ false → hasAt s at (sameWord ++ turnsWord) ≡ true → countAt s at ≡ at + 11
   unfolding countAt either
   same-count d h = rw (d, h) refl
 
-  same-back : (k : ℕ) → s ≡ f ++ ((sameWord ++ turnsWord) ++ decimal k) → k < 65536 → answerAt s at ≡ endingAt (at + 11) k
-  same-back k e b =
-      let g : getD s at 0 ≡ 115 = byte-at ((sameWord ++ turnsWord) ++ decimal k) e in
-      let h : hasAt s at (sameWord ++ turnsWord) ≡ true = word-at s f (sameWord ++ turnsWord) (decimal k) at e l in
+  same-back : (k : ℕ) (t : Transfers) → s ≡ f ++ ((sameWord ++ turnsWord) ++ (decimal k ++ transfersText t)) → k < 65536 → Few t → answerAt s at ≡ endingAt (at + 11) k t
+  same-back k t e b w =
+      let g : getD s at 0 ≡ 115 = byte-at ((sameWord ++ turnsWord) ++ (decimal k ++ transfersText t)) e in
+      let h : hasAt s at (sameWord ++ turnsWord) ≡ true = word-at s f (sameWord ++ turnsWord) (decimal k ++ transfersText t) at e l in
       let d : hasAt s at (doneWord ++ turnsWord) ≡ false = other-at s at (doneWord ++ turnsWord) 115 g (omega arith) (λ (q : 115 ≡ 100). omega arith) in
       let m : length (f ++ (sameWord ++ turnsWord)) ≡ at + 11 = omega (arith, length-append f (sameWord ++ turnsWord)) in
-      ending-back (at + 11) k (f ++ (sameWord ++ turnsWord))
+      ending-back (at + 11) k t (f ++ (sameWord ++ turnsWord))
       (not-plain 115 g (λ (q : 115 ≡ 111). omega arith) (λ (q : 115 ≡ 119). omega arith) (λ (q : 115 ≡ 109). omega arith) (λ (q : 115 ≡ 110). omega arith))
-      (same-count d h) (omega arith) m (e ∙ sym (append-assoc f (sameWord ++ turnsWord) (decimal k))) b
+      (same-count d h) (omega arith) m (e ∙ sym (append-assoc f (sameWord ++ turnsWord) (decimal k ++ transfersText t))) b w
 
   read-count : hasAt s at (doneWord ++ turnsWord) ≡ false → hasAt s at (sameWord ++ turnsWord) ≡ false → hasAt s at readWord ≡ true → valueAt s (at + 5) ≡ true → hasAt s (at + 13) turnsWord ≡ true
       → countAt s at ≡ at + 20
   unfolding countAt readsAt either both
   read-count d c h x t = rw (d, c, h, x, t) refl
 
-  read-back : (v k : ℕ) → s ≡ f ++ (readWord ++ (hex v ++ (turnsWord ++ decimal k))) → k < 65536 → answerAt s at ≡ endingAt (at + 20) k
-  read-back v k e b =
-      let g : getD s at 0 ≡ 114 = byte-at (readWord ++ (hex v ++ (turnsWord ++ decimal k))) e in
-      let h : hasAt s at readWord ≡ true = word-at s f readWord (hex v ++ (turnsWord ++ decimal k)) at e l in
-      let e1 : s ≡ (f ++ readWord) ++ (hex v ++ (turnsWord ++ decimal k)) = e ∙ sym (append-assoc f readWord (hex v ++ (turnsWord ++ decimal k))) in
+  read-back : (v k : ℕ) (t : Transfers) → s ≡ f ++ (readWord ++ (hex v ++ (turnsWord ++ (decimal k ++ transfersText t)))) → k < 65536 → Few t → answerAt s at ≡ endingAt (at + 20) k t
+  read-back v k t e b w =
+      let g : getD s at 0 ≡ 114 = byte-at (readWord ++ (hex v ++ (turnsWord ++ (decimal k ++ transfersText t)))) e in
+      let h : hasAt s at readWord ≡ true = word-at s f readWord (hex v ++ (turnsWord ++ (decimal k ++ transfersText t))) at e l in
+      let e1 : s ≡ (f ++ readWord) ++ (hex v ++ (turnsWord ++ (decimal k ++ transfersText t))) = e ∙ sym (append-assoc f readWord (hex v ++ (turnsWord ++ (decimal k ++ transfersText t)))) in
       let m1 : length (f ++ readWord) ≡ at + 5 = omega (arith, length-append f readWord) in
-      let x : valueAt s (at + 5) ≡ true = value-back v s (f ++ readWord) (turnsWord ++ decimal k) (at + 5) m1 e1 in
-      let e2 : s ≡ ((f ++ readWord) ++ hex v) ++ (turnsWord ++ decimal k) = e1 ∙ sym (append-assoc (f ++ readWord) (hex v) (turnsWord ++ decimal k)) in
+      let x : valueAt s (at + 5) ≡ true = value-back v s (f ++ readWord) (turnsWord ++ (decimal k ++ transfersText t)) (at + 5) m1 e1 in
+      let e2 : s ≡ ((f ++ readWord) ++ hex v) ++ (turnsWord ++ (decimal k ++ transfersText t)) = e1 ∙ sym (append-assoc (f ++ readWord) (hex v) (turnsWord ++ (decimal k ++ transfersText t))) in
       let m2 : length ((f ++ readWord) ++ hex v) ≡ at + 13 = omega (arith, length-append (f ++ readWord) (hex v), length-hex v) in
-      let t : hasAt s (at + 13) turnsWord ≡ true = word-at s ((f ++ readWord) ++ hex v) turnsWord (decimal k) (at + 13) e2 m2 in
-      let e3 : s ≡ (((f ++ readWord) ++ hex v) ++ turnsWord) ++ decimal k = e2 ∙ sym (append-assoc ((f ++ readWord) ++ hex v) turnsWord (decimal k)) in
+      let u : hasAt s (at + 13) turnsWord ≡ true = word-at s ((f ++ readWord) ++ hex v) turnsWord (decimal k ++ transfersText t) (at + 13) e2 m2 in
+      let e3 : s ≡ (((f ++ readWord) ++ hex v) ++ turnsWord) ++ (decimal k ++ transfersText t) = e2 ∙ sym (append-assoc ((f ++ readWord) ++ hex v) turnsWord (decimal k ++ transfersText t)) in
       let m3 : length (((f ++ readWord) ++ hex v) ++ turnsWord) ≡ at + 20 = omega (arith, length-append ((f ++ readWord) ++ hex v) turnsWord) in
       let d : hasAt s at (doneWord ++ turnsWord) ≡ false = other-at s at (doneWord ++ turnsWord) 114 g (omega arith) (λ (q : 114 ≡ 100). omega arith) in
       let c : hasAt s at (sameWord ++ turnsWord) ≡ false = other-at s at (sameWord ++ turnsWord) 114 g (omega arith) (λ (q : 114 ≡ 115). omega arith) in
-      ending-back (at + 20) k (((f ++ readWord) ++ hex v) ++ turnsWord)
+      ending-back (at + 20) k t (((f ++ readWord) ++ hex v) ++ turnsWord)
       (not-plain 114 g (λ (q : 114 ≡ 111). omega arith) (λ (q : 114 ≡ 119). omega arith) (λ (q : 114 ≡ 109). omega arith) (λ (q : 114 ≡ 110). omega arith))
-      (read-count d c h x t) (omega arith) m3 e3 b
+      (read-count d c h x u) (omega arith) m3 e3 b w
 
 -- each answer, behind a line number and its space
-answer-back : (n : ℕ) (said : Said) (s f : List ℕ) → length f ≡ places n + 1 → s ≡ f ++ saidText said → Narrow said → answerAt s (places n + 1) ≡ lineFor n said
-unfolding saidText turns lineFor
-answer-back n ok s f l e h = answer-plain s f (places n + 1) l (ok-back s f (places n + 1) l e)
-answer-back n wait s f l e h = answer-plain s f (places n + 1) l (wait-back s f (places n + 1) l e)
-answer-back n moved s f l e h = answer-plain s f (places n + 1) l (moved-back s f (places n + 1) l e)
-answer-back n (read v k) s f l e h = read-back s f (places n + 1) l v k e h
-answer-back n (done k) s f l e h = done-back s f (places n + 1) l k e h
-answer-back n (same k) s f l e h = same-back s f (places n + 1) l k e h
-answer-back n (no c) s f l e h = answer-plain s f (places n + 1) l (no-back s f (places n + 1) l c e (omega arith))
+answer-back : (n : ℕ) (said : Said) (t : Transfers) (s f : List ℕ) → length f ≡ places n + 1 → s ≡ f ++ (saidText said ++ gains said t) → Narrow said → Few t → answerAt s (places n + 1) ≡ lineFor n said t
+unfolding saidText gains turns lineFor
+answer-back n ok t s f l e h w = answer-plain s f (places n + 1) l (ok-back s f (places n + 1) l e)
+answer-back n wait t s f l e h w = answer-plain s f (places n + 1) l (wait-back s f (places n + 1) l e)
+answer-back n moved t s f l e h w = answer-plain s f (places n + 1) l (moved-back s f (places n + 1) l e)
+answer-back n (read v k) t s f l e h w =
+    read-back s f (places n + 1) l v k t (e ∙ ap (λ (x : List ℕ). f ++ (readWord ++ x)) (append-assoc (hex v) (turnsWord ++ decimal k) (transfersText t))) h w
+answer-back n (done k) t s f l e h w = done-back s f (places n + 1) l k t e h w
+answer-back n (same k) t s f l e h w = same-back s f (places n + 1) l k t e h w
+answer-back n (no c) t s f l e h w =
+    answer-plain s f (places n + 1) l (no-back s f (places n + 1) l c (e ∙ ap (λ (x : List ℕ). f ++ (noWord ++ x)) (append-nil (decimal c))) (omega arith))
 
 -- each line that replay can print is read as what it is
-pub reads-back : (n : ℕ) (said : Said) → Narrow said → lineOf (answerLine n said) ≡ lineFor n said
-reads-back n said h =
+pub reads-back : (n : ℕ) (said : Said) (t : Transfers) → Narrow said → Few t → lineOf (answerLine n said t) ≡ lineFor n said t
+reads-back n said t h w =
     let l : length (decimal n ++ space) ≡ places n + 1 = omega (arith, length-append (decimal n) space, length-decimal n) in
-    line-answer n said
-    ∙ answer-back n said (answerLine n said) (decimal n ++ space) l (line-parts n said ∙ sym (append-assoc (decimal n) space (saidText said))) h
+    line-answer n said t
+    ∙ answer-back n said t (answerLine n said t) (decimal n ++ space) l (line-parts n said t ∙ sym (append-assoc (decimal n) space (saidText said ++ gains said t))) h w

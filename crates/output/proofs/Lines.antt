@@ -1,13 +1,13 @@
 -- Laws of a line: bytes that are alike, a value, the digits of a number, and what a word that stands at a place says of the line's length.
 use Prim.Native.Nat.{ℕ, zero, suc, _+_, _*_, _<_, _≤_, min}
-use mathlib.Core.Path.{_≡_, refl}
+use mathlib.Core.Path.{_≡_, refl, sym, _∙_}
 use mathlib.Core.Bool.{Bool, true, false}
 use mathlib.Core.List.{List}
 use mathlib.Core.Logic.{⊎-elim}
 use native.Mathlib.Nat.{eq-or-lt-of-le}
 use native.Mathlib.Numerals.{add-one}
 use native.Mathlib.Omega.{arith}
-use borrow.Author.Tests.{le-leb, lt-leb, leb-true, ne-eqb}
+use borrow.Author.Tests.{lt-ltb, le-ltb, le-leb, lt-leb, leb-true, ne-eqb}
 use lib.Dec.{eqb, leb, ltb}
 use lib.ListN.{length, getD}
 use Rattle.laws.specs.Choice.{both}
@@ -15,8 +15,11 @@ use Rattle.laws.specs.Scan.{all}
 use Rattle.laws.proofs.Choice.{both-false-right, both-left, both-right}
 use Rattle.laws.proofs.Scan.{all-fails}
 use Rattle.text.specs.Words.{space, readWord, turnsWord, outWord}
-use Rattle.output.specs.Line.{alikeAt, hasAt, hexOf, valueAt, digitAt, digitsFrom, readsAt, closesAt, outOf, restAt, endingOf, answerAt, afterNumber}
+use Rattle.output.specs.Line.{alikeAt, hasAt, hexOf, valueAt, digitAt, digitsFrom, numberAt, readsAt, closesAt, numberIs, outOf, restAt, counts, endingWith, endingOf, answerAt, afterNumber}
+use Rattle.output.specs.declared.Number.{Number}
 use Rattle.output.specs.declared.Number.the-variants.{Is, Nothing}
+use Rattle.output.specs.declared.Tail.{Tail}
+use Rattle.output.specs.declared.Tail.the-variants.{Broken, Told}
 use Rattle.output.specs.declared.Line.the-variants.{Stray, Ending}
 
 module _ (a : List ℕ) (i : ℕ) (b : List ℕ) (j n : ℕ) where
@@ -91,15 +94,19 @@ reads-fits s at h =
     let t : hasAt s (at + 13) turnsWord ≡ true = both-right (valueAt s (at + 5)) (hasAt s (at + 13) turnsWord) (both-right (hasAt s at readWord) (both (valueAt s (at + 5)) (hasAt s (at + 13) turnsWord)) h) in
     omega (arith, has-fits s (at + 13) turnsWord t)
 
--- q is what was found of the bytes after the count, r whether both tests hold
-module _ (s : List ℕ) (at k next : ℕ) (q r : Bool) (f : q ≡ restAt s next) (e : r ≡ both (ltb k 65536) q) where
-  pub ending-is : r ≡ true → Ending at k next ≡ endingOf s at (Is k next)
+module _ (s : List ℕ) (at k next : ℕ) where
+  -- r is what was found after the count
+  pub ending-is : (r : Tail) → r ≡ restAt s next → k < 65536 → endingWith at k next r ≡ endingOf s at (Is k next)
   unfolding endingOf
-  ending-is h = rw (← f, ← e, h)
+  ending-is r f h = rw (lt-ltb k 65536 h, f)
 
-  pub ending-not : r ≡ false → Stray ≡ endingOf s at (Is k next)
+  pub ending-not : 65536 ≤ k → Stray ≡ endingOf s at (Is k next)
   unfolding endingOf
-  ending-not h = rw (← f, ← e, h)
+  ending-not h = rw (le-ltb k 65536 h)
+
+pub with-told : (at k next i o : ℕ) → Ending at (counts k i o) next ≡ endingWith at k next (Told i o)
+unfolding endingWith
+with-told at k next i o = refl
 
 pub ending-none : (s : List ℕ) (at : ℕ) → Stray ≡ endingOf s at Nothing
 unfolding endingOf
@@ -120,11 +127,22 @@ unfolding afterNumber
 after-none s = refl
 
 -- q is whether ` out O` was found after I, r whether both tests hold
-pub out-is :
-    (s : List ℕ) (v next : ℕ) (q r : Bool) → q ≡ closesAt s next outWord → r ≡ both (ltb v 65536) q → r ≡ outOf s (Is v next)
-unfolding outOf
-out-is s v next q r f e = rw (← f) e
+module _ (s : List ℕ) (v next : ℕ) (q r : Bool) (f : q ≡ closesAt s next outWord) (e : r ≡ both (ltb v 65536) q) where
+  pub out-fits : r ≡ true → next + 5 ≤ length s
+  unfolding closesAt
+  out-fits h =
+      let c : closesAt s next outWord ≡ true = sym f ∙ both-right (ltb v 65536) q (sym e ∙ h) in
+      has-fits s next outWord (both-left (hasAt s next outWord) _ c)
 
-pub out-none : (s : List ℕ) → false ≡ outOf s Nothing
+  -- n is the number after it, w what that is
+  pub out-is : (n : Number) (w : ℕ) → r ≡ true → n ≡ numberAt s (next + 5) → w ≡ numberIs n → Told v w ≡ outOf s (Is v next)
+  unfolding outOf
+  out-is n w h g d = rw (← f, ← e, h, d, g)
+
+  pub out-not : r ≡ false → Broken ≡ outOf s (Is v next)
+  unfolding outOf
+  out-not h = rw (← f, ← e, h)
+
+pub out-none : (s : List ℕ) → Broken ≡ outOf s Nothing
 unfolding outOf
 out-none s = refl

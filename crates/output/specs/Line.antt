@@ -1,5 +1,5 @@
 -- What a line of replay's output is: line number, space, then `ok`, `wait`, `moved`, `read V turns K`, `done turns K`, `same turns K` or `no C`.
--- Its words and numbers are those of the text of an answer (text `Words`, `Text`). After the count K of an ending there may stand ` in I out O` (request E4). A line is the list of its bytes, newline apart.
+-- Its words and numbers are those of the text of an answer (text `Words`, `Text`). After the count K of an ending stands ` in I out O` (02, E4), or nothing in a record of before. A line is the list of its bytes, newline apart.
 -- K, C, I and O are at most 65,535: a line with a larger one is no line of replay. So is one with a zero before a number, since replay writes none.
 use Prim.Native.Nat.{ℕ, zero, suc, _+_, _*_, _-_, min}
 use mathlib.Core.List.{List, _++_}
@@ -9,10 +9,14 @@ use lib.Dec.{ltb, leb, eqb}
 use Rattle.laws.specs.Choice.{pick, both, either}
 use Rattle.laws.specs.Scan.{all}
 use Rattle.tracker.specs.Answer.{Said, ok, wait, moved, read, done, same, no}
+use Rattle.tracker.specs.declared.Transfers.{Transfers}
 use Rattle.text.specs.Words.{space, okWord, waitWord, movedWord, noWord, turnsWord, doneWord, sameWord, readWord, inWord, outWord}
 use Rattle.text.specs.Text.{places}
 use Rattle.output.specs.declared.Number.{Number}
 use Rattle.output.specs.declared.Number.the-variants.{Is, Nothing}
+use Rattle.output.specs.declared.Counts.{Counts}
+use Rattle.output.specs.declared.Tail.{Tail}
+use Rattle.output.specs.declared.Tail.the-variants.{Broken, Bare, Told}
 use Rattle.output.specs.declared.Line.{Line}
 use Rattle.output.specs.declared.Line.the-variants.{Stray, Plain, Ending}
 
@@ -84,18 +88,36 @@ readsAt s at = both (hasAt s at readWord) (both (valueAt s (at + 5)) (hasAt s (a
 unfoldable pub countAt : List ℕ → ℕ → ℕ
 countAt s at = pick (either (hasAt s at (doneWord ++ turnsWord)) (hasAt s at (sameWord ++ turnsWord))) (at + 11) (pick (readsAt s at) (at + 20) 0)
 
+-- what a number is; 0 where there is none
+unfoldable pub numberIs : Number → ℕ
+numberIs (Is v next) = v
+numberIs Nothing = 0
+
 -- I, then ` out O`
-unfoldable pub outOf : List ℕ → Number → Bool
-outOf s (Is v next) = both (ltb v 65536) (closesAt s next outWord)
-outOf s Nothing = false
+unfoldable pub outOf : List ℕ → Number → Tail
+outOf s (Is v next) = pick (both (ltb v 65536) (closesAt s next outWord)) (Told v (numberIs (numberAt s (next + 5)))) Broken
+outOf s Nothing = Broken
 
 -- after the count: nothing, or ` in I out O`
-unfoldable pub restAt : List ℕ → ℕ → Bool
-restAt s at = either (eqb at (length s)) (both (hasAt s at inWord) (outOf s (numberAt s (at + 4))))
+unfoldable pub restAt : List ℕ → ℕ → Tail
+restAt s at = pick (eqb at (length s)) Bare (pick (hasAt s at inWord) (outOf s (numberAt s (at + 4))) Broken)
+
+-- what an ending carries, without transfers and with them
+abbrev pub bare : ℕ → Counts
+bare k = record { turns = k; told = false; fetched = 0; back = 0 }
+
+abbrev pub counts : (k i o : ℕ) → Counts
+counts k i o = record { turns = k; told = true; fetched = i; back = o }
+
+-- an ending whose count k stands at a place, with what follows it
+unfoldable pub endingWith : (at k next : ℕ) → Tail → Line
+endingWith at k next Broken = Stray
+endingWith at k next Bare = Ending at (bare k) next
+endingWith at k next (Told i o) = Ending at (counts k i o) next
 
 -- an ending whose count stands at a place
 unfoldable pub endingOf : List ℕ → ℕ → Number → Line
-endingOf s at (Is k next) = pick (both (ltb k 65536) (restAt s next)) (Ending at k next) Stray
+endingOf s at (Is k next) = pick (ltb k 65536) (endingWith at k next (restAt s next)) Stray
 endingOf s at Nothing = Stray
 
 -- what stands after the line number and its space
@@ -108,7 +130,7 @@ unfoldable pub afterNumber : List ℕ → Number → Line
 afterNumber s (Is v next) = pick (hasAt s next space) (answerAt s (next + 1)) Stray
 afterNumber s Nothing = Stray
 
--- a line: no line of replay (Stray), one that is no ending (Plain), or an ending: the place of its count, the count, the place after it
+-- a line: no line of replay (Stray), one that is no ending (Plain), or an ending: the place of its count, what it carries, the place after the count
 unfoldable pub lineOf : List ℕ → Line
 lineOf s = afterNumber s (numberAt s 0)
 
@@ -116,20 +138,20 @@ lineOf s = afterNumber s (numberAt s 0)
 unfoldable pub isLine : Line → Bool
 isLine Stray = false
 isLine Plain = true
-isLine (Ending at k next) = true
+isLine (Ending at c next) = true
 
 -- ## A line that replay prints
 
--- an ending whose count k stands at a place, and nothing after it
-abbrev pub endingAt : ℕ → ℕ → Line
-endingAt at k = Ending at k (at + places k)
+-- an ending whose count k stands at a place, and its transfers after it
+abbrev pub endingAt : ℕ → ℕ → Transfers → Line
+endingAt at k t = Ending at (counts k (t .fetched) (t .back)) (at + places k)
 
 -- what is read of line n of replay's output: after the number and a space, `done turns ` and `same turns ` are 11 bytes, `read V turns ` is 20
-unfoldable pub lineFor : ℕ → Said → Line
-lineFor n ok = Plain
-lineFor n wait = Plain
-lineFor n moved = Plain
-lineFor n (read v k) = endingAt (places n + 1 + 20) k
-lineFor n (done k) = endingAt (places n + 1 + 11) k
-lineFor n (same k) = endingAt (places n + 1 + 11) k
-lineFor n (no c) = Plain
+unfoldable pub lineFor : ℕ → Said → Transfers → Line
+lineFor n ok t = Plain
+lineFor n wait t = Plain
+lineFor n moved t = Plain
+lineFor n (read v k) t = endingAt (places n + 1 + 20) k t
+lineFor n (done k) t = endingAt (places n + 1 + 11) k t
+lineFor n (same k) t = endingAt (places n + 1 + 11) k t
+lineFor n (no c) t = Plain

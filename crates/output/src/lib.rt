@@ -1,9 +1,9 @@
-// 01 "The replay program": a line of its output. Reading one says whether it is a line of replay at all and, of an ending, where its turn count stands.
+// 01 "The replay program": a line of its output. Reading one says whether it is a line of replay at all and, of an ending, what it carries and where its turn count stands.
 // No public function has a `requires`. A line is its bytes, newline apart.
 ghost use mathlib.Core.Path.{_≡_};
 ghost use Prim.Native.Nat.{_-_, _≤_, _<_, min};
 ghost use lib.ListN.{length};
-ghost use Rattle.output.specs.Line.{alikeAt, hasAt, endsAt, digitOf, digitAt, digitsFrom, numberAt, lastOf, hexOf, valueAt, closesAt, plainAt, readsAt, countAt, outOf, restAt, endingOf, answerAt, lineOf, isLine};
+ghost use Rattle.output.specs.Line.{alikeAt, hasAt, endsAt, digitOf, digitAt, digitsFrom, numberAt, lastOf, hexOf, valueAt, closesAt, plainAt, readsAt, countAt, numberIs, outOf, restAt, endingWith, endingOf, answerAt, lineOf, isLine};
 
 // A number in a line: what it is, which stays at 65,536 once there, and the place after it.
 pub enum Number {
@@ -11,11 +11,30 @@ pub enum Number {
     Is(u32, usize),
 }
 
-// A line: no line of replay, a line of replay that is no ending, or an ending with the place of its count, the count and the place after it.
+// What an ending carries: turns, blocks fetched, blocks written back. A record of before 02's E4 tells no transfers: then both are 0.
+pub struct Counts {
+    pub turns: u32,
+    pub told: bool,
+    pub fetched: u32,
+    pub back: u32,
+}
+
+// What stands after an ending's turn count: what replay never prints, nothing, or the transfers.
+pub enum Tail {
+    Broken,
+    Bare,
+    Told(u32, u32),
+}
+
+// A line: no line of replay, a line of replay that is no ending, or an ending with the place of its turn count, what it carries and the place after the count.
 pub enum Line {
     Stray,
     Plain,
-    Ending { at: usize, turns: u32, next: usize },
+    Ending {
+        at: usize,
+        counts: Counts,
+        next: usize,
+    },
 }
 
 // Whether n bytes from i in a and from j in b are there, and are the same.
@@ -210,27 +229,69 @@ fn count_at(s: &[u8], at: usize) -> usize
     0
 }
 
-// Whether a number is I and ` out O` follows it.
-fn out(s: &[u8], n: Number) -> bool
-    ensures { λ r. ⌜ r ≡ outOf (now (s .entry)) n ⌝ }
+// What a number is; 0 where there is none.
+fn number_is(n: Number) -> u32
+    ensures { λ r. ⌜ r ≡ numberIs n ⌝ }
 {
     match n {
-        Number::Is(v, next) => laws::both(v < 65536, closes(s, next, b" out ")),
-        Number::Nothing => false,
+        Number::Is(v, _) => v,
+        Number::Nothing => 0,
     }
 }
 
-// Whether nothing or ` in I out O` stands from a place on.
-fn rest(s: &[u8], at: usize) -> bool
+// The transfers, where a number is I and ` out O` follows it.
+fn out(s: &[u8], n: Number) -> Tail
+    ensures { λ r. ⌜ r ≡ outOf (now (s .entry)) n ⌝ }
+{
+    match n {
+        Number::Is(v, next) => {
+            if laws::both(v < 65536, closes(s, next, b" out ")) {
+                return Tail::Told(v, number_is(number_at(s, next + 5)));
+            }
+            Tail::Broken
+        }
+        Number::Nothing => Tail::Broken,
+    }
+}
+
+// What stands from a place on: nothing, ` in I out O`, or neither.
+fn rest(s: &[u8], at: usize) -> Tail
     ensures { λ r. ⌜ r ≡ restAt (now (s .entry)) at ⌝ }
 {
     if at == s.len() {
-        return true;
+        return Tail::Bare;
     }
     if has(s, at, b" in ") {
         return out(s, number_at(s, at + 4));
     }
-    false
+    Tail::Broken
+}
+
+// The ending whose count k stands at a place, with what follows it.
+fn ending_with(at: usize, k: u32, next: usize, tail: Tail) -> Line
+    ensures { λ r. ⌜ r ≡ endingWith at k next tail ⌝ }
+{
+    match tail {
+        Tail::Broken => Line::Stray,
+        Tail::Bare => {
+            let counts = Counts {
+                turns: k,
+                told: false,
+                fetched: 0,
+                back: 0,
+            };
+            Line::Ending { at, counts, next }
+        }
+        Tail::Told(fetched, back) => {
+            let counts = Counts {
+                turns: k,
+                told: true,
+                fetched,
+                back,
+            };
+            Line::Ending { at, counts, next }
+        }
+    }
 }
 
 // The ending whose count is the number n at a place.
@@ -239,8 +300,8 @@ fn ending(s: &[u8], at: usize, n: Number) -> Line
 {
     match n {
         Number::Is(k, next) => {
-            if laws::both(k < 65536, rest(s, next)) {
-                return Line::Ending { at, turns: k, next };
+            if k < 65536 {
+                return ending_with(at, k, next, rest(s, next));
             }
             Line::Stray
         }
@@ -288,7 +349,7 @@ pub fn is_line(s: &[u8]) -> bool
         Line::Plain => true,
         Line::Ending {
             at: _,
-            turns: _,
+            counts: _,
             next: _,
         } => true,
     }

@@ -1,6 +1,6 @@
 -- A law for each way out of placing, bringing in and draining, from what the code has tested.
 use mathlib.Core.Path.{_≡_, refl, sym, ap, _∙_}
-use mathlib.Core.List.{List}
+use mathlib.Core.List.{List, [], _∷_, _++_}
 use mathlib.Core.Bool.{Bool, true, false}
 use mathlib.Core.Logic.{⊎-elim}
 use Prim.Native.Nat.{ℕ, _+_, _*_, _/_, _%_, _≤_, _<_}
@@ -17,13 +17,17 @@ use Rattle.geometry.specs.Shape.{atHand}
 use Rattle.geometry.specs.TagMemory.{blockPlace}
 use Rattle.block.specs.Block.{blockOr0}
 use Rattle.block.proofs.Blocks.{copy-fits}
+use Rattle.tracker.specs.declared.Transfers.{Transfers}
+use Rattle.tracker.specs.Transfers.{none, plus}
 use Rattle.line.specs.Word.{blockOf, changed, word, cleaned}
 use Rattle.line.specs.Find.{lineOf, lowestFree, victim, after}
 use Rattle.line.proofs.Words.{changed-none}
 use Rattle.line.proofs.Find.{lowestFree-free}
 use Rattle.rules.specs.State.{Rows}
-use Rattle.rules.specs.Place.{rowsFit, placeLine, placeHand, writtenBack, placeMemory, Brought, bringIn, drained}
-use Rattle.placing.specs.Lines.{rows, placed, fetched, drainedRows}
+use Rattle.rules.specs.Copies.{Copy, fetch, fetches, backs, tally}
+use Rattle.rules.specs.Place.{rowsFit, placeLine, placeHand, writtenBack, backOf, placeMemory, placeCopies, Brought, bringIn, drained, drainCopies}
+use Rattle.rules.proofs.Copies.{tally-++}
+use Rattle.placing.specs.Lines.{rows, placed, fetched, allDrained, drainedOn, leaves}
 
 -- the rows fit: what that says
 pub fit-lines : (l : ℕ) (lines bytes : List ℕ) → rowsFit l lines bytes ≡ true → l ≤ length lines
@@ -55,9 +59,9 @@ pub lines-enough : (l : ℕ) (lines bytes : List ℕ) {f : Bool} → l ≤ lengt
 unfolding rowsFit both
 lines-enough l lines bytes h e = rw (le-leb _ _ h) e
 
--- a line, a shape and rows, as a function leaves them
-abbrev pub left : (line : ℕ) (shape : Shape) (lines bytes memory : List ℕ) → Brought
-left line shape lines bytes memory = record { line = line; shape = shape; rows = rows lines bytes memory }
+-- a line, a shape, copies and rows, as a function leaves them
+abbrev pub left : (line : ℕ) (shape : Shape) (copies : Transfers) (lines bytes memory : List ℕ) → Brought
+left line shape copies lines bytes memory = record { line = line; shape = shape; rows = rows lines bytes memory; copies = copies }
 
 -- what an equation of two such says of each part
 module _ {b c : Brought} (e : b ≡ c) where
@@ -73,6 +77,9 @@ module _ {b c : Brought} (e : b ≡ c) where
   pub memory-is : b .rows .memory ≡ c .rows .memory
   memory-is = ap (λ (y : Brought). y .rows .memory) e
 
+  pub copies-are : b .copies ≡ c .copies
+  copies-are = ap (λ (y : Brought). y .copies) e
+
 -- writing line i back: a clean one, and a changed one straight from its bytes
 module _ (lines bytes memory : List ℕ) (i : ℕ) where
   pub written-not : changed (getD lines i 0) ≡ false → memory ≡ writtenBack lines bytes memory i
@@ -83,6 +90,21 @@ module _ (lines bytes memory : List ℕ) (i : ℕ) where
       → at ≡ blockPlace b → m ≡ pick (fits bytes (64 * i) 64) (putW 64 memory at (part bytes (64 * i) 64)) memory → m ≡ writtenBack lines bytes memory i
   unfolding writtenBack
   written-is {b} {at} h e eb ea em = em ∙ sym (copy-fits memory at bytes (64 * i) h) ∙ rw (ea, eb, e) refl
+
+-- the copy of it: none, or one
+module _ (lines : List ℕ) (i : ℕ) where
+  pub back-not : changed (getD lines i 0) ≡ false → none ≡ tally (backOf lines i)
+  unfolding backOf tally fetches backs
+  back-not e = rw e refl
+
+  pub back-is : changed (getD lines i 0) ≡ true → (record { fetched = 0; back = 1 }) ≡ tally (backOf lines i)
+  unfolding backOf tally fetches backs
+  back-is e = rw e refl
+
+-- one block more is fetched
+one-fetched : (b : ℕ) (cs : List Copy) → tally (cs ++ fetch b ∷ []) ≡ plus (tally cs) (record { fetched = 1; back = 0 })
+unfolding tally fetches backs
+one-fetched b cs = tally-++ cs (fetch b ∷ [])
 
 -- a line is taken only where the rows fit
 module _ (shape : Shape) (lines bytes : List ℕ) where
@@ -102,31 +124,33 @@ module _ (shape : Shape) (lines bytes : List ℕ) where
     placed-bytes = fit-bytes (shape .l) lines bytes (placed-fits (omega arith))
 
 -- placing, way by way
-module _ (shape : Shape) (lines bytes memory : List ℕ) where
-  pub placed-misfit : rowsFit (shape .l) lines bytes ≡ false → left (shape .l) shape lines bytes memory ≡ placed shape (rows lines bytes memory)
-  unfolding placeLine placeHand placeMemory both
-  placed-misfit e = sym (rw (e, le-ltb (shape .l) (shape .l) (omega arith)) refl)
+module _ (shape : Shape) (lines bytes memory : List ℕ) {z : Transfers} (ez : z ≡ none) where
+  pub placed-misfit : rowsFit (shape .l) lines bytes ≡ false → left (shape .l) shape z lines bytes memory ≡ placed shape (rows lines bytes memory)
+  unfolding placeLine placeHand placeMemory placeCopies tally fetches backs both
+  placed-misfit e = rw ez (sym (rw (e, le-ltb (shape .l) (shape .l) (omega arith)) refl))
 
-  pub placed-free : (i : ℕ) → rowsFit (shape .l) lines bytes ≡ true → i ≡ lowestFree lines (shape .l) → i < shape .l → left i shape lines bytes memory ≡ placed shape (rows lines bytes memory)
-  unfolding placeLine placeHand placeMemory both
+  pub placed-free : (i : ℕ) → rowsFit (shape .l) lines bytes ≡ true → i ≡ lowestFree lines (shape .l) → i < shape .l → left i shape z lines bytes memory ≡ placed shape (rows lines bytes memory)
+  unfolding placeLine placeHand placeMemory placeCopies both
   placed-free i f e h =
       let h' : lowestFree lines (shape .l) < shape .l = omega arith in
-      rw e (sym (rw (f, lt-ltb _ _ h', lt-leb _ _ h', lt-ltb _ _ h', ← written-not lines bytes memory _ (changed-none _ (lowestFree-free lines (shape .l) h'))) refl))
+      let k = changed-none _ (lowestFree-free lines (shape .l) h') in
+      rw (e, ez) (sym (rw (f, lt-ltb _ _ h', lt-leb _ _ h', lt-ltb _ _ h', ← written-not lines bytes memory _ k, ← back-not lines _ k) refl))
 
   -- none is free, and every line is held
   pub placed-none : (i : ℕ) → rowsFit (shape .l) lines bytes ≡ true → shape .l ≤ lowestFree lines (shape .l) → i ≡ victim lines (shape .l) (shape .hand) → shape .l ≤ i
-      → left i shape lines bytes memory ≡ placed shape (rows lines bytes memory)
-  unfolding placeLine placeHand placeMemory both
+      → left i shape z lines bytes memory ≡ placed shape (rows lines bytes memory)
+  unfolding placeLine placeHand placeMemory placeCopies tally fetches backs both
   placed-none i f o e h =
       let h' : shape .l ≤ victim lines (shape .l) (shape .hand) = omega arith in
-      rw e (sym (rw (f, le-ltb _ _ o, le-leb _ _ o, le-ltb _ _ h') refl))
+      rw (e, ez) (sym (rw (f, le-ltb _ _ o, le-leb _ _ o, le-ltb _ _ h') refl))
 
-  pub placed-victim : (i next : ℕ) (z : Shape) (m : List ℕ) → rowsFit (shape .l) lines bytes ≡ true → shape .l ≤ lowestFree lines (shape .l) → i ≡ victim lines (shape .l) (shape .hand) → i < shape .l
-      → next ≡ after (shape .l) i → z ≡ atHand shape next → m ≡ writtenBack lines bytes memory i → left i z lines bytes m ≡ placed shape (rows lines bytes memory)
-  unfolding placeLine placeHand placeMemory both
-  placed-victim i next z m f o e h a y w =
+module _ (shape : Shape) (lines bytes memory : List ℕ) where
+  pub placed-victim : (i next : ℕ) (y : Shape) (z : Transfers) (m : List ℕ) → rowsFit (shape .l) lines bytes ≡ true → shape .l ≤ lowestFree lines (shape .l) → i ≡ victim lines (shape .l) (shape .hand) → i < shape .l
+      → next ≡ after (shape .l) i → y ≡ atHand shape next → m ≡ writtenBack lines bytes memory i → z ≡ tally (backOf lines i) → left i y z lines bytes m ≡ placed shape (rows lines bytes memory)
+  unfolding placeLine placeHand placeMemory placeCopies both
+  placed-victim i next y z m f o e h a ey w ez =
       let h' : victim lines (shape .l) (shape .hand) < shape .l = omega arith in
-      rw (w, y, a, e) (sym (rw (f, le-ltb _ _ o, le-leb _ _ o, lt-ltb _ _ h') refl))
+      rw (ez, w, ey, a, e) (sym (rw (f, le-ltb _ _ o, le-leb _ _ o, lt-ltb _ _ h') refl))
 
   -- memory changes only where a line is taken
   pub placed-same : shape .l ≤ placeLine shape lines bytes → placeMemory shape (rows lines bytes memory) ≡ memory
@@ -135,26 +159,26 @@ module _ (shape : Shape) (lines bytes memory : List ℕ) where
 
   -- bringing in a block that no line has
   module _ (b : ℕ) where
-    pub fetched-none : (p : ℕ) (z : Shape) (m : List ℕ) → left p z lines bytes m ≡ placed shape (rows lines bytes memory) → shape .l ≤ p
-        → left (shape .l) shape lines bytes m ≡ fetched shape b (rows lines bytes memory)
+    pub fetched-none : (p : ℕ) (y : Shape) {k z : Transfers} (m : List ℕ) → left p y k lines bytes m ≡ placed shape (rows lines bytes memory) → shape .l ≤ p → z ≡ none
+        → left (shape .l) shape z lines bytes m ≡ fetched shape b (rows lines bytes memory)
     unfolding fetched
-    fetched-none p z m g h =
+    fetched-none p y m g h ez =
         let o : shape .l ≤ placeLine shape lines bytes = omega (arith, line-is g) in
-        rw (memory-is g ∙ placed-same o) (sym (rw (le-ltb _ _ o) refl))
+        rw (memory-is g ∙ placed-same o, ez) (sym (rw (le-ltb _ _ o) refl))
 
-    pub fetched-is : (p : ℕ) (z : Shape) (w at : ℕ) (bs m y : List ℕ) → left p z lines bytes m ≡ placed shape (rows lines bytes memory) → p < shape .l
-        → w ≡ word b false 0 → at ≡ blockPlace b → y ≡ blockOr0 m at → bs ≡ putW 64 bytes (blockPlace p) y
-        → left p z (set lines p w) bs m ≡ fetched shape b (rows lines bytes memory)
+    pub fetched-is : (p : ℕ) (y : Shape) (k z : Transfers) (w at : ℕ) (bs m v : List ℕ) → left p y k lines bytes m ≡ placed shape (rows lines bytes memory) → p < shape .l
+        → w ≡ word b false 0 → at ≡ blockPlace b → v ≡ blockOr0 m at → bs ≡ putW 64 bytes (blockPlace p) v → z ≡ plus k (record { fetched = 1; back = 0 })
+        → left p y z (set lines p w) bs m ≡ fetched shape b (rows lines bytes memory)
     unfolding fetched
-    fetched-is p z w at bs m y g h ew ea ey eb =
+    fetched-is p y k z w at bs m v g h ew ea ev eb ez =
         let o : placeLine shape lines bytes < shape .l = omega (arith, line-is g) in
-        rw (eb, ey, ea, ew, line-is g, shape-is g, memory-is g) (sym (rw (lt-ltb _ _ o) refl))
+        rw (eb, ev, ea, ew, ez, copies-are g, line-is g, shape-is g, memory-is g) (sym (rw (lt-ltb _ _ o, one-fetched b (placeCopies shape (rows lines bytes memory))) refl))
 
-    pub bringIn-found : (i : ℕ) → i ≡ lineOf lines (shape .l) b → i < shape .l → left i shape lines bytes memory ≡ bringIn shape b (rows lines bytes memory)
+    pub bringIn-found : (i : ℕ) {z : Transfers} → i ≡ lineOf lines (shape .l) b → i < shape .l → z ≡ none → left i shape z lines bytes memory ≡ bringIn shape b (rows lines bytes memory)
     unfolding bringIn
-    bringIn-found i e h =
+    bringIn-found i e h ez =
         let o : lineOf lines (shape .l) b < shape .l = omega arith in
-        rw e (sym (rw (lt-ltb _ _ o) refl))
+        rw (e, ez) (sym (rw (lt-ltb _ _ o) refl))
 
     pub bringIn-fetched : shape .l ≤ lineOf lines (shape .l) b → bringIn shape b (rows lines bytes memory) ≡ fetched shape b (rows lines bytes memory)
     unfolding bringIn fetched
@@ -182,44 +206,46 @@ bringIn-same shape b lines bytes memory h = same (ltb (lineOf lines (shape .l) b
     same false e = rw e (fetched-same shape b (rows lines bytes memory) (rw e at h))
 
 -- the first i of l lines of the rows r are drained
-pub record Draining (l i : ℕ) (r : Rows) (lines memory : List ℕ) : Type 0 where
+pub record Draining (l i : ℕ) (r : Rows) (copies : Transfers) (lines memory : List ℕ) : Type 0 where
   pub within : i ≤ l
   pub now-lines : lines ≡ drained i r .lines
   pub now-memory : memory ≡ drained i r .memory
+  pub now-copies : copies ≡ tally (drainCopies i r)
   pub same-bytes : drained i r .bytes ≡ r .bytes
   pub lines-kept : length lines ≡ length (r .lines)
   pub memory-kept : length memory ≡ length (r .memory)
 
-pub draining-none : (l : ℕ) (r : Rows) → Draining l 0 r (r .lines) (r .memory)
-unfolding drained
-draining-none l r = record { within = omega arith; now-lines = refl; now-memory = refl; same-bytes = refl; lines-kept = refl; memory-kept = refl }
+pub draining-none : (l : ℕ) (r : Rows) {z : Transfers} → z ≡ none → Draining l 0 r z (r .lines) (r .memory)
+unfolding drained drainCopies tally fetches backs
+draining-none l r ez = record { within = omega arith; now-lines = refl; now-memory = refl; now-copies = ez; same-bytes = refl; lines-kept = refl; memory-kept = refl }
 
-pub draining-more : {l i : ℕ} {r : Rows} {lines memory m : List ℕ} (w : ℕ) → Draining l i r lines memory → i < l → w ≡ cleaned (getD lines i 0)
-    → m ≡ writtenBack lines (r .bytes) memory i → length m ≡ length memory → Draining l (i + 1) r (set lines i w) m
-unfolding drained
-draining-more {l} {i} {r} {lines} {memory} {m} w d h ew em k = record {
+pub draining-more : {l i : ℕ} {r : Rows} {copies k z : Transfers} {lines memory m : List ℕ} (w : ℕ) → Draining l i r copies lines memory → i < l → w ≡ cleaned (getD lines i 0)
+    → m ≡ writtenBack lines (r .bytes) memory i → k ≡ tally (backOf lines i) → z ≡ plus copies k → length m ≡ length memory → Draining l (i + 1) r z (set lines i w) m
+unfolding drained drainCopies
+draining-more {l} {i} {r} {copies} {k} {z} {lines} {memory} {m} w d h ew em ek ez e = record {
   within = omega arith;
   now-lines = rw (add-one, ew, d .now-lines) refl;
   now-memory = rw (add-one, em, d .now-lines, d .now-memory, d .same-bytes) refl;
+  now-copies = rw (add-one, ez, ek, d .now-copies, d .now-lines) (sym (tally-++ (drainCopies i r) (backOf (drained i r .lines) i)));
   same-bytes = rw add-one (d .same-bytes);
   lines-kept = simp length-set (d .lines-kept);
-  memory-kept = k ∙ d .memory-kept;
+  memory-kept = e ∙ d .memory-kept;
 }
 
 -- all l lines of the rows r are drained
-pub draining-all : (l i : ℕ) (r : Rows) (ls m : List ℕ) → Draining l i r ls m → l ≤ i → rows ls (r .bytes) m ≡ drained l r
-draining-all l i r ls m d h =
+pub draining-all : (l i : ℕ) (r : Rows) (copies : Transfers) (ls m : List ℕ) → Draining l i r copies ls m → l ≤ i → leaves copies ls (r .bytes) m ≡ allDrained l r
+draining-all l i r copies ls m d h =
     let e : i ≡ l = omega arith in
-    rw (← e) (by-rows (drained i r) (d .now-lines) (sym (d .same-bytes)) (d .now-memory))
+    rw (← e, d .now-copies) (by-rows (drained i r) (d .now-lines) (sym (d .same-bytes)) (d .now-memory))
   where
-    by-rows : {lines bytes memory : List ℕ} (a : Rows) → lines ≡ a .lines → bytes ≡ a .bytes → memory ≡ a .memory → rows lines bytes memory ≡ a
+    by-rows : {lines bytes memory : List ℕ} {z : Transfers} (a : Rows) → lines ≡ a .lines → bytes ≡ a .bytes → memory ≡ a .memory → leaves z lines bytes memory ≡ leaves z (a .lines) (a .bytes) (a .memory)
     by-rows a p q s = rw (p, q, s) refl
 
 module _ (shape : Shape) (lines bytes memory : List ℕ) where
-  pub drainedRows-fit : rowsFit (shape .l) lines bytes ≡ true → drainedRows shape (rows lines bytes memory) ≡ drained (shape .l) (rows lines bytes memory)
-  unfolding drainedRows
-  drainedRows-fit e = rw e
+  pub drainedOn-fit : rowsFit (shape .l) lines bytes ≡ true → drainedOn shape (rows lines bytes memory) ≡ allDrained (shape .l) (rows lines bytes memory)
+  unfolding drainedOn
+  drainedOn-fit e = rw e
 
-  pub drainedRows-misfit : rowsFit (shape .l) lines bytes ≡ false → rows lines bytes memory ≡ drainedRows shape (rows lines bytes memory)
-  unfolding drainedRows
-  drainedRows-misfit e = rw e refl
+  pub drainedOn-misfit : {z : Transfers} → rowsFit (shape .l) lines bytes ≡ false → z ≡ none → leaves z lines bytes memory ≡ drainedOn shape (rows lines bytes memory)
+  unfolding drainedOn
+  drainedOn-misfit e ez = rw (e, ez) refl

@@ -2,17 +2,20 @@
 // No public function has a `requires`: where the rows are not of L lines, no line is taken and nothing changes.
 use geometry::Geometry;
 use geometry::Shape;
+use tracker::Transfers;
 ghost use mathlib.Core.Path.{_≡_};
 ghost use Prim.Native.Nat.{_+_, _*_, _≤_, _<_};
 ghost use lib.Dec.{eqb};
 ghost use lib.ListN.{length};
-ghost use Rattle.rules.specs.Place.{rowsFit, writtenBack, bringIn, drained};
-ghost use Rattle.placing.specs.Lines.{rows, placed, fetched, drainedRows, brought};
+ghost use Rattle.rules.specs.Copies.{tally};
+ghost use Rattle.rules.specs.Place.{rowsFit, writtenBack, backOf, bringIn};
+ghost use Rattle.placing.specs.Lines.{rows, placed, fetched, brought, allDrained, drainedOn, leaves};
 
-// A line, L for none, and the shape with its hand.
+// A line, L for none, the shape with its hand, and the sums of the copies that were made.
 pub struct Spot {
     pub line: usize,
     pub shape: Shape,
+    pub copies: Transfers,
 }
 
 // The line bytes are those of L lines.
@@ -35,17 +38,21 @@ pub fn rows_fit(l: usize, lines: &[u32], bytes: &[u8]) -> bool
     bytes_fit(l, bytes)
 }
 
-// Line i, if it is changed, straight from its bytes to its block's own place in memory.
-fn write_back(i: usize, lines: &[u32], bytes: &[u8], memory: &mut [u8])
+// Line i, if it is changed, straight from its bytes to its block's own place in memory; the sums of this copy.
+fn write_back(i: usize, lines: &[u32], bytes: &[u8], memory: &mut [u8]) -> Transfers
     requires { ⌜ (i < length (now lines)) × (64 * i + 64 ≤ length (now bytes)) ⌝ }
-    ensures { λ _. ⌜ now (memory .exit) ≡ writtenBack (now (lines .entry)) (now (bytes .entry)) (now (memory .entry)) i ⌝ }
+    ensures { λ r. ⌜ (now (memory .exit) ≡ writtenBack (now (lines .entry)) (now (bytes .entry)) (now (memory .entry)) i) × (r ≡ tally (backOf (now (lines .entry)) i)) ⌝ }
 {
     let w = lines[i];
     if !line::changed(w) {
-        return;
+        return Transfers::none();
     }
     let at = Geometry::block_place(line::block_of(w));
     block::copy_block(memory, at, bytes, Geometry::BLOCK_LEN * i);
+    Transfers {
+        fetched: 0,
+        back: 1,
+    }
 }
 
 // Placing a block: the line to take, written back if it was changed, and the shape with its hand.
@@ -53,21 +60,35 @@ pub fn place(shape: Shape, lines: &[u32], bytes: &[u8], memory: &mut [u8]) -> Sp
     ensures { λ r. ⌜ brought r (now (lines .entry)) (now (bytes .entry)) (now (memory .exit)) ≡ placed shape (rows (now (lines .entry)) (now (bytes .entry)) (now (memory .entry))) ⌝ }
 {
     let l = shape.l;
+    let none = Transfers::none();
     if !rows_fit(l, lines, bytes) {
-        return Spot { line: l, shape };
+        return Spot {
+            line: l,
+            shape,
+            copies: none,
+        };
     }
     let free = line::lowest_free(lines, l);
     if free < l {
-        return Spot { line: free, shape };
+        return Spot {
+            line: free,
+            shape,
+            copies: none,
+        };
     }
     let i = line::victim(lines, l, shape.hand);
     if l <= i {
-        return Spot { line: i, shape };
+        return Spot {
+            line: i,
+            shape,
+            copies: none,
+        };
     }
-    write_back(i, lines, bytes, memory);
+    let copies = write_back(i, lines, bytes, memory);
     Spot {
         line: i,
         shape: shape.at_hand(line::after(l, i)),
+        copies,
     }
 }
 
@@ -79,12 +100,26 @@ pub fn fetch(shape: Shape, b: u32, lines: &mut [u32], bytes: &mut [u8], memory: 
     let spot = place(shape, lines, bytes, memory);
     let p = spot.line;
     if l <= p {
-        return Spot { line: l, shape };
+        return Spot {
+            line: l,
+            shape,
+            copies: Transfers::none(),
+        };
     }
     let block = block::read_block(memory, Geometry::block_place(b));
     lines[p] = line::word(b, false, 0);
     block::write_block(bytes, Geometry::BLOCK_LEN * p, &block);
-    spot
+    let next = spot.shape;
+    let copies = spot.copies;
+    let one = Transfers {
+        fetched: 1,
+        back: 0,
+    };
+    Spot {
+        line: p,
+        shape: next,
+        copies: copies.plus(one),
+    }
 }
 
 // Bringing in block b: the line that has it, else it is fetched.
@@ -100,31 +135,38 @@ pub fn bring_in(
     let l = shape.l;
     let i = line::line_of(lines, l, b);
     if i < l {
-        return Spot { line: i, shape };
+        return Spot {
+            line: i,
+            shape,
+            copies: Transfers::none(),
+        };
     }
     fetch(shape, b, lines, bytes, memory)
 }
 
-// Changed lines to memory, lowest line first, and marked clean, in rows that are of L lines.
-fn drain_all(l: usize, lines: &mut [u32], bytes: &[u8], memory: &mut [u8])
+// Changed lines to memory, lowest line first, and marked clean, in rows that are of L lines; the sums of these copies.
+fn drain_all(l: usize, lines: &mut [u32], bytes: &[u8], memory: &mut [u8]) -> Transfers
     requires { ⌜ (l ≤ length (now lines)) × (length (now bytes) ≡ 64 * l) ⌝ }
-    ensures { λ _. ⌜ rows (now (lines .exit)) (now (bytes .entry)) (now (memory .exit)) ≡ drained l (rows (now (lines .entry)) (now (bytes .entry)) (now (memory .entry))) ⌝ }
+    ensures { λ r. ⌜ leaves r (now (lines .exit)) (now (bytes .entry)) (now (memory .exit)) ≡ allDrained l (rows (now (lines .entry)) (now (bytes .entry)) (now (memory .entry))) ⌝ }
 {
+    let mut copies = Transfers::none();
     let mut i = 0;
     while i < l {
-        write_back(i, lines, bytes, memory);
+        let back = write_back(i, lines, bytes, memory);
+        copies = copies.plus(back);
         lines[i] = line::cleaned(lines[i]);
         i += 1;
     }
+    copies
 }
 
-// Changed lines to memory, lowest line first, and marked clean; the lines stay.
-pub fn drain(shape: Shape, lines: &mut [u32], bytes: &[u8], memory: &mut [u8])
-    ensures { λ _. ⌜ rows (now (lines .exit)) (now (bytes .entry)) (now (memory .exit)) ≡ drainedRows shape (rows (now (lines .entry)) (now (bytes .entry)) (now (memory .entry))) ⌝ }
+// Changed lines to memory, lowest line first, and marked clean; the lines stay. The sums of these copies.
+pub fn drain(shape: Shape, lines: &mut [u32], bytes: &[u8], memory: &mut [u8]) -> Transfers
+    ensures { λ r. ⌜ leaves r (now (lines .exit)) (now (bytes .entry)) (now (memory .exit)) ≡ drainedOn shape (rows (now (lines .entry)) (now (bytes .entry)) (now (memory .entry))) ⌝ }
 {
     let l = shape.l;
     if !rows_fit(l, lines, bytes) {
-        return;
+        return Transfers::none();
     }
-    drain_all(l, lines, bytes, memory);
+    drain_all(l, lines, bytes, memory)
 }

@@ -13,6 +13,8 @@ use Rattle.laws.proofs.Choice.{both-left, both-right}
 use Rattle.geometry.specs.declared.Shape.{Shape}
 use Rattle.tracker.specs.declared.Tracker.{Tracker}
 use Rattle.tracker.specs.Answer.{Said, says, no}
+use Rattle.tracker.specs.declared.Transfers.{Transfers}
+use Rattle.tracker.specs.Transfers.{none}
 use Rattle.script.specs.Script.{Asks, asksFor}
 use Rattle.text.specs.Text.{lineText, lineIn, most}
 use Rattle.rules.specs.State.{State, trackerAt, lengthsRight}
@@ -64,9 +66,9 @@ pub goesOn-fits : (input : List ℕ) (p : Played) → goesOn input p ≡ true �
 unfolding goesOn
 goesOn-fits input p h = both-left _ _ (both-right _ _ h)
 
-pub line-in : (output : List ℕ) (written k : ℕ) (said : Said) → fits output written most ≡ true → lineIn output written k said ≡ lineText k said
+pub line-in : (output : List ℕ) (written k : ℕ) (said : Said) (t : Transfers) → fits output written most ≡ true → lineIn output written k said t ≡ lineText k said t
 unfolding lineIn
-line-in output written k said h = rw h
+line-in output written k said t h = rw h
 
 -- a chunk under way, by its parts
 abbrev pub under : Shape → List ℕ → List Tracker → (bytes memory : List ℕ) → (number taken : ℕ) → List ℕ → (written : ℕ) → Played
@@ -83,12 +85,12 @@ under shape lines trackers bytes memory number taken output written =
 told : (s : State) (number taken : ℕ) (output : List ℕ) (written e x : ℕ) (bytes memory : List ℕ) (q : left.Turned) {want : Turned} {lines bytes' memory' output' : List ℕ} {written' : ℕ}
     → fits output written most ≡ true
     → turned q lines bytes' memory' ≡ want
-    → output' ≡ splice output written (lineIn output written (number + 1) (says (q .answer)))
-    → written' ≡ written + length (lineIn output written (number + 1) (says (q .answer)))
+    → output' ≡ splice output written (lineIn output written (number + 1) (says (q .answer)) (q .transfers))
+    → written' ≡ written + length (lineIn output written (number + 1) (says (q .answer)) (q .transfers))
     → under (q .shape) lines (set (s .trackers) x (q .tracker)) bytes' memory' (number + 1) (e + 1) output' written'
     ≡ after (record { kept = record { state = s; bytes = bytes; memory = memory }; number = number; taken = taken; output = output; written = written }) e (stepped s x want)
 told s number taken output written e x bytes memory q f st o v =
-    rw (o, v, line-in output written (number + 1) (says (q .answer)) f)
+    rw (o, v, line-in output written (number + 1) (says (q .answer)) (q .transfers) f)
     (ap (λ (y : Turned). after (record { kept = record { state = s; bytes = bytes; memory = memory }; number = number; taken = taken; output = output; written = written }) e (stepped s x y)) st)
 
 done-at : (rule : Kept → Asks → Out) (input : List ℕ) (p : Played) (e : ℕ) (a : Asks) → e ≡ lineEnd input (p .taken) → a ≡ asksFor (part input (p .taken) (e - p .taken))
@@ -106,8 +108,8 @@ pub going-line : (input : List ℕ) {begun : Played} (shape : Shape) (lines : Li
     → b ≡ askedBy a
     → x ≡ named (shape .t) b
     → turned q lines' bytes' memory' ≡ askedTurn shape b trackers (trackerAt trackers x) (rows lines bytes memory)
-    → output' ≡ splice output written (lineIn output written (number + 1) (says (q .answer)))
-    → written' ≡ written + length (lineIn output written (number + 1) (says (q .answer)))
+    → output' ≡ splice output written (lineIn output written (number + 1) (says (q .answer)) (q .transfers))
+    → written' ≡ written + length (lineIn output written (number + 1) (says (q .answer)) (q .transfers))
     → Going input begun (under (q .shape) lines' (set trackers x (q .tracker)) bytes' memory' (number + 1) (e + 1) output' written')
 going-line input {begun} shape lines trackers bytes memory number taken output written e x a b q g h ee ae be xe st o v =
     let s : State = record { shape = shape; lines = lines; trackers = trackers } in
@@ -124,17 +126,18 @@ going-line input {begun} shape lines trackers bytes memory number taken output w
     (going-more input g h)
 
 -- one more line that is refused, as the code does it
-pub refusing-line : (input : List ℕ) {begun : Played} (k : Kept) (number taken : ℕ) (output : List ℕ) (written e : ℕ) {output' : List ℕ} {written' : ℕ}
+pub refusing-line : (input : List ℕ) {begun : Played} (k : Kept) (number taken : ℕ) (output : List ℕ) (written e : ℕ) (t : Transfers) {output' : List ℕ} {written' : ℕ}
     → Rest refuses input begun (record { kept = k; number = number; taken = taken; output = output; written = written })
     → goesOn input (record { kept = k; number = number; taken = taken; output = output; written = written }) ≡ true
     → e ≡ lineEnd input taken
-    → output' ≡ splice output written (lineIn output written (number + 1) (no 12))
-    → written' ≡ written + length (lineIn output written (number + 1) (no 12))
+    → t ≡ none
+    → output' ≡ splice output written (lineIn output written (number + 1) (no 12) t)
+    → written' ≡ written + length (lineIn output written (number + 1) (no 12) t)
     → Rest refuses input begun (record { kept = k; number = number + 1; taken = e + 1; output = output'; written = written' })
-refusing-line input {begun} k number taken output written e r h ee o v =
+refusing-line input {begun} k number taken output written e t r h ee te o v =
     let p : Played = record { kept = k; number = number; taken = taken; output = output; written = written } in
     subst (λ (q : Played). Rest refuses input begun q)
-    (sym (rw (o, v, line-in output written (number + 1) (no 12) (goesOn-fits input p h)) (done-at refuses input p e (asksFor (part input taken (e - taken))) ee refl)))
+    (sym (rw (o, v, te, line-in output written (number + 1) (no 12) none (goesOn-fits input p h)) (done-at refuses input p e (asksFor (part input taken (e - taken))) ee refl)))
     (rest-more refuses input r h)
 
 -- before the first line

@@ -16,7 +16,7 @@ use Rattle.rules.specs.Whole.{whole}
 use Rattle.rules.specs.Calls.{Out}
 use Rattle.rules.specs.Run.{Kept}
 use Rattle.play.specs.Play.{Played, follows, refuses, lineEnd, goesOn, lineDone, played, starts, plays, refusesAll}
-use Rattle.play.specs.Lines.{asked, saidBy, leftBy, textOf, Becomes}
+use Rattle.play.specs.Lines.{asked, saidBy, transfersBy, leftBy, textOf, Becomes}
 use Rattle.play.proofs.Chunk.{played-stops, played-goes}
 use Rattle.play.proofs.Ways.{plays-ready}
 
@@ -43,12 +43,12 @@ splice-none m a = let z : a + 0 ≡ a = omega arith in rw z (sym (take-append-dr
 
 module _ (rule : Kept → Asks → Out) where
   becomes-itself : (p : Played) → Becomes rule p p []
-  unfolding leftBy saidBy textOf
+  unfolding leftBy saidBy transfersBy textOf
   becomes-itself p = record { kept = refl; number = omega arith; written = omega arith; output = splice-none (p .output) (p .written) }
 
   becomes-more : (input : List ℕ) (p : Played) {q : Played} {lines : List Asks} → p .written ≤ length (p .output)
       → Becomes rule (lineDone rule input p) q lines → Becomes rule p q (asksFor (part input (p .taken) (lineEnd input (p .taken) - p .taken)) ∷ lines)
-  unfolding lineDone leftBy saidBy textOf
+  unfolding lineDone leftBy saidBy transfersBy textOf
   becomes-more input p {q} {lines} h b =
       record {
         kept = b .kept;

@@ -103,7 +103,7 @@ module _ (s : State) (bytes memory : List ℕ) where
   ready-is w = rw w
 
 module _ (bytes memory : List ℕ) where
-  pub refused-of : (c : ℕ) {o : Out} → o ≡ fresh 0 0 0 bytes memory → (record { said = no c; state = o .state; bytes = o .bytes; memory = o .memory }) ≡ refused c zeroState bytes memory
+  pub refused-of : (c : ℕ) {o : Out} → o ≡ fresh 0 0 0 bytes memory → (record { said = no c; state = o .state; bytes = o .bytes; memory = o .memory; transfers = o .transfers }) ≡ refused c zeroState bytes memory
   unfolding fresh limits inLimits both refusal unless
   refused-of c e = rw e refl
 

@@ -61,7 +61,7 @@ goesOn input p = both (ltb (lineEnd input (p .taken)) (length input)) (both (fit
 -- what is left after a line that ends at e and did o: its text is put after what is written
 abbrev pub after : Played → (e : ℕ) → Out → Played
 after p e o =
-    let text = lineText (p .number + 1) (o .said) in
+    let text = lineText (p .number + 1) (o .said) (o .transfers) in
     record { kept = kept o; number = p .number + 1; taken = e + 1; output = splice (p .output) (p .written) text; written = p .written + length text }
 
 -- after the line that begins where the chunk is taken to; `rule` says what a line does

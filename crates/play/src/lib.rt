@@ -9,6 +9,7 @@ use script::Command;
 use tracker::Access;
 use tracker::Answer;
 use tracker::Tracker;
+use tracker::Transfers;
 use turn::Asked;
 ghost use mathlib.Core.Path.{_≡_};
 ghost use mathlib.Core.Bool.{true};
@@ -127,7 +128,8 @@ fn play_lines(
         let v = r.tracker;
         trackers[x] = v;
         let answer = r.answer;
-        written = text::put_line(output, written, k, answer);
+        let transfers = r.transfers;
+        written = text::put_line(output, written, k, answer, transfers);
     }
     Played {
         state: State {
@@ -178,6 +180,7 @@ pub fn play(
 pub fn refuse_all(number: u64, input: &[u8], output: &mut [u8]) -> Refused
     ensures { λ r. ⌜ ((k : Kept) → leftRefused k r (now (output .exit)) ≡ refusesAll k number (now (input .entry)) (now (output .entry))) ⌝ }
 {
+    let none = Transfers::none();
     let mut k = number;
     let mut at: usize = 0;
     let mut written: usize = 0;
@@ -186,7 +189,7 @@ pub fn refuse_all(number: u64, input: &[u8], output: &mut [u8]) -> Refused
         at = e + 1;
         e = line_end(input, at);
         k += 1;
-        written = text::put_line(output, written, k, Answer::No(12));
+        written = text::put_line(output, written, k, Answer::No(12), none);
     }
     Refused {
         number: k,
@@ -208,9 +211,11 @@ fn begin_refused(c: u8, bytes: &[u8], memory: &mut [u8]) -> Out
 {
     let none = State::fresh(0, 0, 0, bytes, memory);
     let state = none.state;
+    let transfers = none.transfers;
     Out {
         state,
         answer: Answer::No(c),
+        transfers,
     }
 }
 

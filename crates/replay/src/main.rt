@@ -128,7 +128,8 @@ fn first(input: &[u8], bytes: &mut [u8], memory: &mut [u8], output: &mut [u8]) -
     let m = memory_cut(s.n, memory);
     let o = play::begin(c, &bytes[..b], &mut memory[..m]);
     let answer = o.answer;
-    let written = text::put_line(output, 0, 1, answer);
+    let transfers = o.transfers;
+    let written = text::put_line(output, 0, 1, answer, transfers);
     let state = o.state;
     Stage {
         state,

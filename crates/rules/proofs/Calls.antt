@@ -24,7 +24,7 @@ use Rattle.rules.specs.State.{State, Rows, trackerAt, lengthsRight}
 use Rattle.rules.specs.Whole.{phaseWhole, whole}
 use Rattle.rules.specs.Place.{rowsFit, drained}
 use Rattle.rules.specs.Step.{Turned, fit, byPhase, turnOf}
-use Rattle.rules.specs.Calls.{Out, refused, accepted, withTracker, withLines, stateTests, meetsNone, issueTests, issueNo, issue, stepped, stepTests, stepNo, step, allIdle, drainTests, drainNo, drain}
+use Rattle.rules.specs.Calls.{Out, refused, accepted, withTracker, stateTests, meetsNone, issueTests, issueNo, issue, stepped, stepTests, stepNo, step, allIdle, drainTests, drainNo, drainsTo, drain}
 use Rattle.line.proofs.Words.{blockOf-cleaned, holder-cleaned, used-cleaned}
 use Rattle.rules.proofs.Lined.{at, loose-lined, same-holds}
 use Rattle.rules.proofs.Whole.{heldOf, heldLines, LinedBy, heldOf-no, Whole, whole-facts, facts-whole, inLimits-of, limits-hand, t-most, l-least}
@@ -252,7 +252,7 @@ module _ (s : State) (bytes memory : List ℕ) (w : whole s ≡ true) (len : len
           memory-long = written-length (s .shape) (drained i rows) (d .lined) few fits i (omega arith) ∙ d .memory-long;
         }
 
-    pub drain-is : drain s bytes memory ≡ accepted (withLines s (drained (s .shape .l) rows .lines)) bytes (drained (s .shape .l) rows .memory)
+    pub drain-is : drain s bytes memory ≡ drainsTo s rows
     unfolding drain
     drain-is = unless-0 _ _ (drainNo-is ∙ refusal-0 (drainTests (allIdle s)) (idle-all, tt))
 

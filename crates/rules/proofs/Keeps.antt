@@ -23,8 +23,10 @@ use Rattle.laws.proofs.Value.{length-bytes}
 use Rattle.block.specs.Block.{putBit, allZero}
 use Rattle.tracker.specs.declared.Phase.{Phase}
 use Rattle.tracker.specs.declared.Phase.the-variants.{Idle, Probe, Map, Leaf, Set, Clear}
+use Rattle.tracker.specs.declared.Transfers.{Transfers}
 use Rattle.tracker.specs.declared.Tracker.{Tracker}
-use Rattle.tracker.specs.Tracker.{idle, isIdle, isIdleAt, holdsAt, goesTo, counted}
+use Rattle.tracker.specs.Transfers.{none}
+use Rattle.tracker.specs.Tracker.{idle, isIdle, isIdleAt, holdsAt, at as now-at, goesTo, counted}
 use Rattle.tracker.specs.Answer.{Said, ok, wait, moved, read, done, same, no as refusal}
 use Rattle.line.specs.Word.{used, blockOf, holder, held, heldBy, word, lineBlocks, marks}
 use Rattle.line.specs.Find.{lineOf}
@@ -165,16 +167,16 @@ module _ (sit : Situation) where
   xlong : x < length ts
   xlong = omega (arith, sit .tracked .long)
 
-  group-ok : u .group < groups n
+  pub group-ok : u .group < groups n
   group-ok = subst (λ (w : Tracker). w .group < groups n) (sit .is-u) (sit .tracked .group-lt x (ap isIdle (sit .is-u) ∙ sit .busy))
 
   phase-was : phaseWhole (u .write) (u .bottom) (u .phase) ≡ true
   phase-was = subst (λ (z : Tracker). phaseWhole (z .write) (z .bottom) (z .phase) ≡ true) (sit .is-u) (sit .tracked .phase-ok x)
 
-  leaf-of-lt : leafOf (u .group) < n
+  pub leaf-of-lt : leafOf (u .group) < n
   leaf-of-lt = leaf-lt shape (sit .limits-ok) (u .group) group-ok
 
-  few : t * heldLines < l
+  pub few : t * heldLines < l
   few = omega (arith, l-least shape (sit .limits-ok))
 
   -- what is held by x before and after
@@ -206,18 +208,18 @@ module _ (sit : Situation) where
   stays : {ls : List ℕ} → holdsAt (u .phase) ≡ true → (u' : Tracker) → holdsAt (u' .phase) ≡ true → u' .group ≡ u .group → LinedBy shape ts ls → LinedBy shape (set ts x u') ls
   stays h u' h' e w = same-holds w (λ y k. by-case u' (now-held u' h' ∙ ap (λ (g : ℕ). suc (mapBlock n g)) e ∙ sym (was-held h)) y)
 
-  small : blocks n < lineBlocks
+  pub small : blocks n < lineBlocks
   small = blocks-small shape (sit .limits-ok)
 
   -- a tracker comes to hold its map block, which is in line i
-  comes-to-hold : {ls : List ℕ} (i : ℕ) → LinedBy shape ts ls → Has ls i (mapBlock n (u .group)) → holder (at ls i) ≡ 0 → holdsAt (u .phase) ≡ false
-      → LinedBy shape (set ts x (goesTo u Leaf)) (held-by ls i x)
-  comes-to-hold {ls} i w h z f =
+  comes-to-hold : {ls : List ℕ} (m : Transfers) (i : ℕ) → LinedBy shape ts ls → Has ls i (mapBlock n (u .group)) → holder (at ls i) ≡ 0 → holdsAt (u .phase) ≡ false
+      → LinedBy shape (set ts x (goesTo u Leaf m)) (held-by ls i x)
+  comes-to-hold {ls} m i w h z f =
       let bl : blockOf (at ls i) < lineBlocks = rw (h .is-block) (omega (arith, small, w .apart .exists i _ h)) in
       let x1 : x + 1 < marks = omega (arith, t-most shape (sit .limits-ok)) in
-      held-lined w i (heldBy (at ls i) (x + 1)) (low (w .apart) i _ h) (heldBlocks n (set ts x (goesTo u Leaf))) x 0 (sit .x-lt) (omega arith) (λ y k kl q. heldOf-other n ts x y (goesTo u Leaf) (λ e. q e (omega arith)))
+      held-lined w i (heldBy (at ls i) (x + 1)) (low (w .apart) i _ h) (heldBlocks n (set ts x (goesTo u Leaf m))) x 0 (sit .x-lt) (omega arith) (λ y k kl q. heldOf-other n ts x y (goesTo u Leaf m) (λ e. q e (omega arith)))
       (mapBlock n (u .group)) h (used-heldBy (at ls i) (x + 1) bl x1) (blockOf-heldBy (at ls i) (x + 1) bl x1 ∙ h .is-block) z (holder-heldBy (at ls i) (x + 1) bl x1)
-      (was-free f) (now-held (goesTo u Leaf) refl)
+      (was-free f) (now-held (goesTo u Leaf m) refl)
 
   -- a tracker lets go of its map block, which is in line j, and ends
   lets-go : {ls : List ℕ} (j w' : ℕ) → LinedBy shape ts ls → Has ls j (mapBlock n (u .group)) → holder (at ls j) ≡ x + 1
@@ -236,15 +238,15 @@ module _ (sit : Situation) where
   idle-tracked : Tracked n t (set ts x idle)
   idle-tracked = tracked-set n t ts x idle (sit .tracked) (sit .x-lt) (λ e. absurd (not-both-ways refl e)) refl
 
-  goes-tracked : (p : Phase) → phaseWhole (u .write) (u .bottom) p ≡ true → Tracked n t (set ts x (goesTo u p))
-  goes-tracked p e = tracked-set n t ts x (goesTo u p) (sit .tracked) (sit .x-lt) (λ _. group-ok) e
+  goes-tracked : (p : Phase) (m : Transfers) → phaseWhole (u .write) (u .bottom) p ≡ true → Tracked n t (set ts x (now-at u p m))
+  goes-tracked p m e = tracked-set n t ts x (now-at u p m) (sit .tracked) (sit .x-lt) (λ _. group-ok) e
 
   -- a step that changes no row and ends, or goes on to Map, from a phase that holds nothing
-  ends-here : (a : Said) → isNo a ≡ false → holdsAt (u .phase) ≡ false → Keeps shape x ts r (ends a shape r)
+  ends-here : (a : Said) → isNo a ≡ false → holdsAt (u .phase) ≡ false → Keeps shape x ts r (ends a shape u none r)
   ends-here a s h = record { says = s; shaped = unmoved (sit .hand-lt); lined = quiet h idle refl (sit .lined); tracked = idle-tracked; lines-long = refl; bytes-long = refl; memory-long = refl }
 
-  to-map : holdsAt (u .phase) ≡ false → Keeps shape x ts r (goes u Map shape r)
-  to-map h = record { says = refl; shaped = unmoved (sit .hand-lt); lined = quiet h (goesTo u Map) refl (sit .lined); tracked = goes-tracked Map refl; lines-long = refl; bytes-long = refl; memory-long = refl }
+  to-map : holdsAt (u .phase) ≡ false → Keeps shape x ts r (goes u Map none shape r)
+  to-map h = record { says = refl; shaped = unmoved (sit .hand-lt); lined = quiet h (goesTo u Map none) refl (sit .lined); tracked = goes-tracked Map _ refl; lines-long = refl; bytes-long = refl; memory-long = refl }
 
   pub keeps-probe : u .phase ≡ Probe → Keeps shape x ts r (probe shape u r)
   keeps-probe e = go (lt-or-ge (lineOf (r .lines) l (leafOf (u .group))) l) (true-or-false (u .write))
@@ -262,25 +264,25 @@ module _ (sit : Situation) where
           eqs (no d) = rw (probe-other shape u r q w d) (to-map h)
 
   -- the map block is brought in, held by nobody
-  map-brings : Brings shape (blocks n) heldLines (heldBlocks n ts) r (mapBlock n (u .group)) (bringIn shape (mapBlock n (u .group)) r)
+  pub map-brings : Brings shape (blocks n) heldLines (heldBlocks n ts) r (mapBlock n (u .group)) (bringIn shape (mapBlock n (u .group)) r)
   map-brings = brings shape r (mapBlock n (u .group)) (sit .lined) few (sit .rows-fit) (sit .hand-lt) (map-block shape (sit .limits-ok) (u .group) group-ok) small
 
-  leaf-brings : Brings shape (blocks n) heldLines (heldBlocks n ts) r (leafOf (u .group)) (bringIn shape (leafOf (u .group)) r)
+  pub leaf-brings : Brings shape (blocks n) heldLines (heldBlocks n ts) r (leafOf (u .group)) (bringIn shape (leafOf (u .group)) r)
   leaf-brings = brings shape r (leafOf (u .group)) (sit .lined) few (sit .rows-fit) (sit .hand-lt) (leaf-block shape (sit .limits-ok) (u .group) group-ok) small
 
   module _ (m : u .phase ≡ Map) (b : Brought) (f : Brings shape (blocks n) heldLines (heldBlocks n ts) r (mapBlock n (u .group)) b) (z : holder (at (b .rows .lines) (b .line)) ≡ 0) where
     map-free : holdsAt (u .phase) ≡ false
     map-free = rw m
 
-    map-ends : (a : Said) → isNo a ≡ false → Keeps shape x ts r (ends a (b .shape) (b .rows))
+    map-ends : (a : Said) → isNo a ≡ false → Keeps shape x ts r (ends a (b .shape) u (b .copies) (b .rows))
     map-ends a s = record { says = s; shaped = f .shaped; lined = quiet map-free idle refl (f .lined); tracked = idle-tracked; lines-long = f .lines-long; bytes-long = f .bytes-long; memory-long = f .memory-long }
 
     map-holds : Keeps shape x ts r (holdsMap x u b)
     map-holds = record {
       says = refl;
       shaped = f .shaped;
-      lined = comes-to-hold (b .line) (f .lined) (f .has-it) z map-free;
-      tracked = goes-tracked Leaf refl;
+      lined = comes-to-hold (b .copies) (b .line) (f .lined) (f .has-it) z map-free;
+      tracked = goes-tracked Leaf _ refl;
       lines-long = simp length-set (f .lines-long);
       bytes-long = f .bytes-long;
       memory-long = f .memory-long;
@@ -303,7 +305,7 @@ module _ (sit : Situation) where
         says = refl;
         shaped = unmoved (sit .hand-lt);
         lined = quiet (rw m) (counted u) (rw m) (sit .lined);
-        tracked = goes-tracked (u .phase) phase-was;
+        tracked = goes-tracked (u .phase) _ phase-was;
         lines-long = refl;
         bytes-long = refl;
         memory-long = refl;
@@ -356,7 +358,7 @@ module _ (sit : Situation) where
     leaf-line-loose = leaf-loose n ts (leaf-brings .lined) _ _ (leaf-brings .has-it) leaf-of-lt
 
     -- after the leaf was brought in: ends and lets go
-    leaf-ends : (a : Said) → isNo a ≡ false → Keeps shape x ts r (let b = bringIn shape (leafOf (u .group)) r in ends a (b .shape) (withLines (b .rows) (letGo false (b .rows .lines) j)))
+    leaf-ends : (a : Said) → isNo a ≡ false → Keeps shape x ts r (let b = bringIn shape (leafOf (u .group)) r in ends a (b .shape) u (b .copies) (withLines (b .rows) (letGo false (b .rows .lines) j)))
     leaf-ends a s = record {
       says = s;
       shaped = leaf-brings .shaped;
@@ -408,8 +410,8 @@ module _ (sit : Situation) where
           go (inl z) = rw (putIn-empty j u b z) (record {
             says = refl;
             shaped = leaf-brings .shaped;
-            lined = stays h (goesTo u Clear) refl refl freed;
-            tracked = goes-tracked Clear (same-map wr Clear refl);
+            lined = stays h _ refl refl freed;
+            tracked = goes-tracked Clear _ (same-map wr Clear refl);
             lines-long = simp length-set (leaf-brings .lines-long);
             bytes-long = put-length;
             memory-long = leaf-brings .memory-long;
@@ -459,9 +461,9 @@ module _ (sit : Situation) where
               rw (write0-line shape j u r e q) (record {
                 says = refl;
                 shaped = unmoved (sit .hand-lt);
-                lined = stays h (goesTo u Set) refl refl (fill-lined (sit .lined) i (leafOf (u .group)) q (leaf-loose n ts (sit .lined) i (leafOf (u .group)) hi leaf-of-lt) bl small
+                lined = stays h _ refl refl (fill-lined (sit .lined) i (leafOf (u .group)) q (leaf-loose n ts (sit .lined) i (leafOf (u .group)) hi leaf-of-lt) bl small
                     (λ y d f. d (sit .lined .apart .one y i (leafOf (u .group)) f hi)) true);
-                tracked = goes-tracked Set (same-map wr Set refl);
+                tracked = goes-tracked Set _ (same-map wr Set refl);
                 lines-long = simp length-set;
                 bytes-long = length-putW 64 (r .bytes) (64 * i) (newLeaf u) new-long;
                 memory-long = refl;
@@ -471,9 +473,9 @@ module _ (sit : Situation) where
               rw (write0-place shape j u r e q (p .0)) (record {
                 says = refl;
                 shaped = moved-to (place-hand shape r (sit .lined) few (sit .rows-fit) (sit .hand-lt));
-                lined = stays h (goesTo u Set) refl refl (fill-lined (sit .lined) (placeLine shape (r .lines) (r .bytes)) (leafOf (u .group)) (p .0) (p .1) bl small
+                lined = stays h _ refl refl (fill-lined (sit .lined) (placeLine shape (r .lines) (r .bytes)) (leafOf (u .group)) (p .0) (p .1) bl small
                     (λ y d f. lineOf-none (r .lines) l (leafOf (u .group)) y q (low (sit .lined .apart) y (leafOf (u .group)) f) f) true);
-                tracked = goes-tracked Set (same-map wr Set refl);
+                tracked = goes-tracked Set _ (same-map wr Set refl);
                 lines-long = simp length-set;
                 bytes-long = length-putW 64 (r .bytes) (64 * placeLine shape (r .lines) (r .bytes)) (newLeaf u) new-long;
                 memory-long = place-memory-length shape r (sit .lined) few (sit .rows-fit);

@@ -1,9 +1,14 @@
 pub mod Words
+pub mod Copies
+pub mod Blocks
 pub mod Lined
 pub mod Whole
 pub mod Placed
 pub mod Ways
 pub mod Keeps
+pub mod Copied
+pub mod Fetched
+pub mod AnotherMemory
 pub mod Calls
 pub mod Another
 pub mod Begun

@@ -1,7 +1,7 @@
 -- A line to take always exists, since there are more lines than trackers; placing and bringing in keep the lines whole and every held line where it is.
 use mathlib.Core.Path.{_≡_, refl, sym, ap, _∙_}
 use mathlib.Core.Bool.{Bool, true, false}
-use mathlib.Core.List.{List}
+use mathlib.Core.List.{List, [], _∷_, _++_}
 use mathlib.Core.Logic.{_⊎_, inl, inr, ⊎-elim}
 use Prim.Native.Nat.{ℕ, suc, _+_, _-_, _*_, _/_, _%_, _<_, _≤_}
 use native.Mathlib.Omega.{arith}
@@ -20,10 +20,12 @@ use Rattle.geometry.specs.declared.Shape.{Shape}
 use Rattle.geometry.specs.Shape.{atHand}
 use Rattle.geometry.specs.TagMemory.{blockPlace}
 use Rattle.block.specs.Block.{blockOr0}
+use Rattle.tracker.specs.Transfers.{none}
 use Rattle.line.specs.Word.{used, blockOf, changed, holder, held, word, lineBlocks}
 use Rattle.line.specs.Find.{lineOf, lowestFree, looseFrom, victim, after}
 use Rattle.rules.specs.State.{Rows}
-use Rattle.rules.specs.Place.{lineBytes, rowsFit, placeLine, placeHand, writtenBack, placeMemory, Brought, filled, withMemory, bringIn}
+use Rattle.rules.specs.Copies.{fetch, tally}
+use Rattle.rules.specs.Place.{lineBytes, rowsFit, placeLine, placeHand, writtenBack, placeMemory, placeCopies, Brought, filled, withMemory, bringIn}
 use Rattle.line.proofs.Words.{blockOf-word, holder-word, not-used, used-word}
 use Rattle.rules.proofs.Words.{held-holder, holder-free, loose-holder}
 use Rattle.rules.proofs.Lined.{at, Has, Holding, Lined, low, lineOf-has, lineOf-none, loose-lined, has-here, at-other, holder-here}
@@ -209,7 +211,7 @@ moved-to q = record { hand-lt = q; is-shape = refl }
 
 -- a law for each way out of bringing in
 module _ (shape : Shape) (b : ℕ) (r : Rows) where
-  pub bring-found : lineOf (r .lines) (shape .l) b < shape .l → bringIn shape b r ≡ (record { line = lineOf (r .lines) (shape .l) b; shape = shape; rows = r })
+  pub bring-found : lineOf (r .lines) (shape .l) b < shape .l → bringIn shape b r ≡ (record { line = lineOf (r .lines) (shape .l) b; shape = shape; rows = r; copies = none })
   unfolding bringIn
   bring-found q = rw (lt-ltb _ _ q)
 
@@ -218,11 +220,12 @@ module _ (shape : Shape) (b : ℕ) (r : Rows) where
         line = placeLine shape (r .lines) (r .bytes);
         shape = atHand shape (placeHand shape (r .lines) (r .bytes));
         rows = filled (withMemory r (placeMemory shape r)) (placeLine shape (r .lines) (r .bytes)) b false (blockOr0 (placeMemory shape r) (blockPlace b));
+        copies = tally (placeCopies shape r ++ fetch b ∷ []);
       })
   unfolding bringIn
   bring-placed q p = rw (le-ltb _ _ q, lt-ltb _ _ p)
 
-  pub bring-none : shape .l ≤ lineOf (r .lines) (shape .l) b → shape .l ≤ placeLine shape (r .lines) (r .bytes) → bringIn shape b r ≡ (record { line = shape .l; shape = shape; rows = r })
+  pub bring-none : shape .l ≤ lineOf (r .lines) (shape .l) b → shape .l ≤ placeLine shape (r .lines) (r .bytes) → bringIn shape b r ≡ (record { line = shape .l; shape = shape; rows = r; copies = none })
   unfolding bringIn
   bring-none q p = rw (le-ltb _ _ q, le-ltb _ _ p)
 

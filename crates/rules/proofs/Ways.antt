@@ -14,39 +14,41 @@ use Rattle.block.specs.Block.{putGroup, putBit, allZero}
 use Rattle.tracker.specs.declared.Phase.{Phase}
 use Rattle.tracker.specs.declared.Phase.the-variants.{Map, Set, Clear}
 use Rattle.tracker.specs.declared.Tracker.{Tracker}
+use Rattle.tracker.specs.Transfers.{none}
 use Rattle.tracker.specs.Answer.{read, done, same}
 use Rattle.line.specs.Word.{blockOf, held, word}
 use Rattle.line.specs.Find.{lineOf}
 use Rattle.rules.specs.State.{Rows, lengthsRight}
 use Rattle.rules.specs.Whole.{mapBlock}
-use Rattle.rules.specs.Place.{lineBytes, placeLine, placeHand, placeMemory, Brought, filled, withMemory, withLines, bringIn}
+use Rattle.rules.specs.Copies.{tally}
+use Rattle.rules.specs.Place.{lineBytes, placeLine, placeHand, placeMemory, placeCopies, Brought, filled, withMemory, withLines, bringIn}
 use Rattle.rules.specs.Step.{ends, goes, waits, turnsOf, groupIn, bitIn, letGo, probe, holdsMap, onMap, map, leafRead, putIn, writeUnder1, writeUnder0, newLeaf, leafWrite, finish, holding, inLine, byPhase, fit, turnOf}
 
 module _ (shape : Shape) (t : Tracker) (r : Rows) where
-  pub probe-miss : shape .l ≤ lineOf (r .lines) (shape .l) (leafOf (t .group)) → probe shape t r ≡ goes t Map shape r
+  pub probe-miss : shape .l ≤ lineOf (r .lines) (shape .l) (leafOf (t .group)) → probe shape t r ≡ goes t Map none shape r
   unfolding probe
   probe-miss q = rw (le-ltb _ _ q)
 
   module _ (q : lineOf (r .lines) (shape .l) (leafOf (t .group)) < shape .l) where
-    pub probe-read : t .write ≡ false → probe shape t r ≡ ends (read (groupIn (r .bytes) (lineOf (r .lines) (shape .l) (leafOf (t .group))) (t .group)) (turnsOf t)) shape r
+    pub probe-read : t .write ≡ false → probe shape t r ≡ ends (read (groupIn (r .bytes) (lineOf (r .lines) (shape .l) (leafOf (t .group))) (t .group)) (turnsOf t)) shape t none r
     unfolding probe
     probe-read w = rw (lt-ltb _ _ q, w)
 
-    pub probe-same : t .write ≡ true → groupIn (r .bytes) (lineOf (r .lines) (shape .l) (leafOf (t .group))) (t .group) ≡ t .value → probe shape t r ≡ ends (same (turnsOf t)) shape r
+    pub probe-same : t .write ≡ true → groupIn (r .bytes) (lineOf (r .lines) (shape .l) (leafOf (t .group))) (t .group) ≡ t .value → probe shape t r ≡ ends (same (turnsOf t)) shape t none r
     unfolding probe
     probe-same w e = rw (lt-ltb _ _ q, w, eq-eqb _ _ e)
 
-    pub probe-other : t .write ≡ true → (groupIn (r .bytes) (lineOf (r .lines) (shape .l) (leafOf (t .group))) (t .group) ≡ t .value → ⊥) → probe shape t r ≡ goes t Map shape r
+    pub probe-other : t .write ≡ true → (groupIn (r .bytes) (lineOf (r .lines) (shape .l) (leafOf (t .group))) (t .group) ≡ t .value → ⊥) → probe shape t r ≡ goes t Map none shape r
     unfolding probe
     probe-other w e = rw (lt-ltb _ _ q, w, ne-eqb _ _ e)
 
 module _ (x : ℕ) (t : Tracker) (b : Brought) where
   module _ (z : bitIn (b .rows .bytes) (b .line) (t .group) ≡ 0) where
-    pub map-read : t .write ≡ false → onMap x t b ≡ ends (read 0 (turnsOf t)) (b .shape) (b .rows)
+    pub map-read : t .write ≡ false → onMap x t b ≡ ends (read 0 (turnsOf t)) (b .shape) t (b .copies) (b .rows)
     unfolding onMap
     map-read w = rw (eq-eqb _ _ z, w)
 
-    pub map-same : t .write ≡ true → t .value ≡ 0 → onMap x t b ≡ ends (same (turnsOf t)) (b .shape) (b .rows)
+    pub map-same : t .write ≡ true → t .value ≡ 0 → onMap x t b ≡ ends (same (turnsOf t)) (b .shape) t (b .copies) (b .rows)
     unfolding onMap
     map-same w e = rw (eq-eqb _ _ z, w, eq-eqb _ _ e)
 
@@ -72,12 +74,12 @@ module _ (shape : Shape) (j : ℕ) (t : Tracker) (r : Rows) where
   module _ (q : bringIn shape (leafOf (t .group)) r .line < shape .l) where
     pub leafRead-is : leafRead shape j t r
         ≡ (let b = bringIn shape (leafOf (t .group)) r in
-        ends (read (groupIn (b .rows .bytes) (b .line) (t .group)) (turnsOf t)) (b .shape) (withLines (b .rows) (letGo false (b .rows .lines) j)))
+        ends (read (groupIn (b .rows .bytes) (b .line) (t .group)) (turnsOf t)) (b .shape) t (b .copies) (withLines (b .rows) (letGo false (b .rows .lines) j)))
     unfolding leafRead
     leafRead-is = rw (lt-ltb _ _ q)
 
     pub write1-same : (let b = bringIn shape (leafOf (t .group)) r in groupIn (b .rows .bytes) (b .line) (t .group) ≡ t .value)
-        → writeUnder1 shape j t r ≡ (let b = bringIn shape (leafOf (t .group)) r in ends (same (turnsOf t)) (b .shape) (withLines (b .rows) (letGo false (b .rows .lines) j)))
+        → writeUnder1 shape j t r ≡ (let b = bringIn shape (leafOf (t .group)) r in ends (same (turnsOf t)) (b .shape) t (b .copies) (withLines (b .rows) (letGo false (b .rows .lines) j)))
     unfolding writeUnder1
     write1-same e = rw (lt-ltb _ _ q, eq-eqb _ _ e)
 
@@ -86,18 +88,18 @@ module _ (shape : Shape) (j : ℕ) (t : Tracker) (r : Rows) where
     unfolding writeUnder1
     write1-put e = rw (lt-ltb _ _ q, ne-eqb _ _ e)
 
-  pub write0-same : t .value ≡ 0 → writeUnder0 shape j t r ≡ ends (same (turnsOf t)) shape (withLines r (letGo false (r .lines) j))
+  pub write0-same : t .value ≡ 0 → writeUnder0 shape j t r ≡ ends (same (turnsOf t)) shape t none (withLines r (letGo false (r .lines) j))
   unfolding writeUnder0
   write0-same e = rw (eq-eqb _ _ e)
 
   module _ (e : t .value ≡ 0 → ⊥) where
     pub write0-line : lineOf (r .lines) (shape .l) (leafOf (t .group)) < shape .l
-        → writeUnder0 shape j t r ≡ goes t Set shape (filled r (lineOf (r .lines) (shape .l) (leafOf (t .group))) (leafOf (t .group)) true (newLeaf t))
+        → writeUnder0 shape j t r ≡ goes t Set none shape (filled r (lineOf (r .lines) (shape .l) (leafOf (t .group))) (leafOf (t .group)) true (newLeaf t))
     unfolding writeUnder0
     write0-line q = rw (ne-eqb _ _ e, lt-ltb _ _ q)
 
     pub write0-place : shape .l ≤ lineOf (r .lines) (shape .l) (leafOf (t .group)) → placeLine shape (r .lines) (r .bytes) < shape .l
-        → writeUnder0 shape j t r ≡ goes t Set (atHand shape (placeHand shape (r .lines) (r .bytes)))
+        → writeUnder0 shape j t r ≡ goes t Set (tally (placeCopies shape r)) (atHand shape (placeHand shape (r .lines) (r .bytes)))
         (filled (withMemory r (placeMemory shape r)) (placeLine shape (r .lines) (r .bytes)) (leafOf (t .group)) true (newLeaf t))
     unfolding writeUnder0
     write0-place q p = rw (ne-eqb _ _ e, le-ltb _ _ q, lt-ltb _ _ p)
@@ -116,19 +118,19 @@ bytesWith t b = putGroup (b .rows .bytes) (blockPlace (b .line) + byteOf (t .gro
 
 module _ (j : ℕ) (t : Tracker) (b : Brought) where
   pub putIn-empty : allZero (lineBytes (bytesWith t b) (b .line)) ≡ true
-      → putIn j t b ≡ goes t Clear (b .shape) (record { lines = set (b .rows .lines) (b .line) 0; bytes = bytesWith t b; memory = b .rows .memory })
+      → putIn j t b ≡ goes t Clear (b .copies) (b .shape) (record { lines = set (b .rows .lines) (b .line) 0; bytes = bytesWith t b; memory = b .rows .memory })
   unfolding putIn
   putIn-empty z = rw z
 
   pub putIn-done : allZero (lineBytes (bytesWith t b) (b .line)) ≡ false
-      → putIn j t b ≡ ends (done (turnsOf t)) (b .shape)
+      → putIn j t b ≡ ends (done (turnsOf t)) (b .shape) t (b .copies)
       (record { lines = letGo false (set (b .rows .lines) (b .line) (word (leafOf (t .group)) true 0)) j; bytes = bytesWith t b; memory = b .rows .memory })
   unfolding putIn
   putIn-done z = rw z
 
 -- Finish, where line j has the map block
 pub finish-is : (shape : Shape) (j bit : ℕ) (t : Tracker) (r : Rows) → blockOf (getD (r .lines) j 0) ≡ mapBlock (shape .n) (t .group)
-    → finish shape j bit t r ≡ ends (done (turnsOf t)) shape (record {
+    → finish shape j bit t r ≡ ends (done (turnsOf t)) shape t none (record {
       lines = set (r .lines) j (word (mapBlock (shape .n) (t .group)) true 0);
       bytes = putBit (r .bytes) (blockPlace j + mapByteOf (leafOf (t .group))) (mapBitOf (leafOf (t .group))) bit;
       memory = r .memory;

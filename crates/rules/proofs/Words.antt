@@ -1,12 +1,13 @@
 -- What a word says of its holder, and of a line that changes hands, as the laws of whole states need it; the other laws of words are line's.
-use mathlib.Core.Path.{_≡_, refl}
+use mathlib.Core.Path.{_≡_, refl, ap}
 use mathlib.Core.Bool.{true, false}
+use mathlib.Core.Logic.{⊎-elim}
 use Prim.Native.Nat.{ℕ, _<_, _≤_}
 use native.Mathlib.Omega.{arith}
 use borrow.Author.Tests.{lt-ltb, ltb-true, ltb-false, eq-eqb}
-use Rattle.laws.proofs.Choice.{both-true}
+use Rattle.laws.proofs.Choice.{not-both-ways, true-or-false, both-true}
 use Rattle.line.specs.Word.{used, blockOf, changed, holder, held, has, heldBy, lineBlocks, marks}
-use Rattle.line.proofs.Words.{used-word, blockOf-word, holder-word, changed-word}
+use Rattle.line.proofs.Words.{used-word, blockOf-word, holder-word, changed-word, not-used}
 
 pub holder-free : holder 0 ≡ 0
 unfolding holder
@@ -23,6 +24,11 @@ loose-holder w h = let z : holder w ≤ 0 = ltb-false _ _ h in omega arith
 pub holder-held : (w : ℕ) → 0 < holder w → held w ≡ true
 unfolding held
 holder-held w h = lt-ltb _ _ h
+
+-- a changed line is not free
+pub changed-used : (w : ℕ) → changed w ≡ true → used w ≡ true
+unfolding changed
+changed-used w e = ⊎-elim (λ u. u) (λ u. absurd (not-both-ways e (ap changed (not-used w u)))) (true-or-false (used w))
 
 pub used-has : (w b : ℕ) → used w ≡ true → blockOf w ≡ b → has w b ≡ true
 unfolding has

@@ -13,16 +13,19 @@ use Rattle.laws.specs.Bits.{bitOf, withBit}
 use Rattle.block.specs.Block.{bitAt, putBit, allZero, blockOr0}
 use Rattle.memory.specs.PlainReading.{leafBit, plainGroup}
 use Rattle.memory.specs.True.{trueAt, isTrue, clearedMap}
+use Rattle.tracker.specs.declared.Transfers.{Transfers}
+use Rattle.tracker.specs.Transfers.{none}
 use Rattle.tracker.specs.Tracker.{readOf, writeOf}
 use Rattle.tracker.specs.Answer.{ok, wait, moved, read, done, same, no as says-no}
 use Rattle.line.specs.Word.{used, blockOf, changed, holder, held, has, word, heldBy, cleaned}
 use Rattle.line.specs.Find.{lineOf, lowestFree, looseFrom, victim, after}
 use Rattle.rules.specs.State.{lengthsRight}
 use Rattle.rules.specs.Whole.{limits, holds, lineWhole, trackerWhole, whole}
-use Rattle.rules.specs.Place.{rowsFit, placeLine, placeHand, writtenBack, placeMemory, bringIn, drained}
+use Rattle.rules.specs.Copies.{fetches, backs, tally}
+use Rattle.rules.specs.Place.{rowsFit, placeLine, placeHand, writtenBack, backOf, placeMemory, placeCopies, bringIn, drained, drainCopies}
 use Rattle.rules.specs.Step.{probe, onMap, map, leafRead, putIn, writeUnder1, writeUnder0, leafWrite, finish, inLine, fit, turnOf}
 use Rattle.rules.specs.Calls.{fresh, opened, meets, meetsNone, issueNo, issue, stepNo, step, allIdle, drainNo, drain, showNo, shownBit, show}
-use Rattle.rules.specs.Run.{Call, issues, steps, drains, lends, Kept, kept, does, answers, ended}
+use Rattle.rules.specs.Run.{Call, issues, steps, drains, lends, Kept, kept, does, answers, ended, transfers}
 
 -- a fresh memory of n leaves over stale bytes, two trackers, three lines
 abbrev two-leaves : Kept
@@ -37,6 +40,10 @@ creates g v = issues 0 (writeOf false g v) ∷ steps 0 ∷ steps 0 ∷ steps 0 �
 
 abbrev reads : ℕ → List Call
 reads g = issues 0 (readOf false g) ∷ steps 0 ∷ steps 0 ∷ []
+
+-- so many fetched and so many written back
+abbrev sums : ℕ → ℕ → Transfers
+sums i o = record { fetched = i; back = o }
 
 pub record Worked : Type 0 where
   -- Case R
@@ -70,6 +77,10 @@ pub record Worked : Type 0 where
   pub eviction : answers four-leaves (creates 17 10 ++ (creates 33 11 ++ (creates 49 12 ++ (reads 17 ++ (reads 33 ++ reads 49)))))
       ≡ ok ∷ moved ∷ moved ∷ done 3 ∷ ok ∷ moved ∷ moved ∷ done 3 ∷ ok ∷ moved ∷ moved ∷ done 3
       ∷ ok ∷ moved ∷ read 10 2 ∷ ok ∷ moved ∷ read 11 2 ∷ ok ∷ moved ∷ read 12 2 ∷ []
+  -- its transfers: the map block is fetched once, a created leaf never; what is written back is a changed leaf, not one that was only read; the drain writes the map block
+  pub eviction-transfers : transfers four-leaves (creates 17 10 ++ (creates 33 11 ++ (creates 49 12 ++ (reads 17 ++ (reads 33 ++ (reads 49 ++ (drains ∷ [])))))))
+      ≡ none ∷ none ∷ none ∷ sums 1 0 ∷ none ∷ none ∷ none ∷ none ∷ none ∷ none ∷ none ∷ sums 0 1
+      ∷ none ∷ none ∷ sums 1 1 ∷ none ∷ none ∷ sums 1 1 ∷ none ∷ none ∷ sums 1 0 ∷ sums 0 1 ∷ []
   -- a group changed in a leaf that stays: ends at Leaf
   pub changes : answers two-leaves (creates 17 10 ++ (issues 0 (writeOf false 18 7) ∷ steps 0 ∷ steps 0 ∷ reads 17))
       ≡ ok ∷ moved ∷ moved ∷ done 3 ∷ ok ∷ moved ∷ done 2 ∷ ok ∷ moved ∷ read 10 2 ∷ []
@@ -87,7 +98,7 @@ pub record Worked : Type 0 where
       ≡ says-no 2 ∷ says-no 5 ∷ says-no 6 ∷ ok ∷ says-no 7 ∷ says-no 7 ∷ says-no 8 ∷ []
 
 pub worked : Worked
-unfolding both either implies no refusal unless leafOf byteOf groups mapBlockOf mapByteOf mapBitOf mapBlocks part splice fits putW value bytes numberAt first all bitOf withBit inLimits bitAt putBit allZero blockOr0 leafBit plainGroup trueAt isTrue clearedMap used blockOf changed holder held has word heldBy cleaned lineOf lowestFree looseFrom victim after lengthsRight limits holds lineWhole trackerWhole whole rowsFit placeLine placeHand writtenBack placeMemory bringIn drained probe onMap map leafRead putIn writeUnder1 writeUnder0 leafWrite finish inLine fit turnOf fresh opened meets meetsNone issueNo issue stepNo step allIdle drainNo drain showNo shownBit show does answers ended
+unfolding both either implies no refusal unless leafOf byteOf groups mapBlockOf mapByteOf mapBitOf mapBlocks part splice fits putW value bytes numberAt first all bitOf withBit inLimits bitAt putBit allZero blockOr0 leafBit plainGroup trueAt isTrue clearedMap used blockOf changed holder held has word heldBy cleaned lineOf lowestFree looseFrom victim after lengthsRight limits holds lineWhole trackerWhole whole rowsFit placeLine placeHand fetches backs tally writtenBack backOf placeMemory placeCopies bringIn drained drainCopies probe onMap map leafRead putIn writeUnder1 writeUnder0 leafWrite finish inLine fit turnOf fresh opened meets meetsNone issueNo issue stepNo step allIdle drainNo drain showNo shownBit show does answers ended transfers
 worked = record {
   case-r = refl;
   in-turn = refl;
@@ -96,6 +107,7 @@ worked = record {
   emptied = refl;
   same-twice = refl;
   eviction = refl;
+  eviction-transfers = refl;
   changes = refl;
   drained-reads = refl;
   drained-true = refl;

@@ -1,4 +1,4 @@
--- 01 "What is refused": fresh, open, issue, step, drain and show, each with its refusals in order; 02 E3's with issue's.
+-- 01 "What is refused": fresh, open, issue, step, drain and show, each with its refusals in order; 02 E3's with issue's, 02 E4's transfers.
 use mathlib.Core.List.{List, [], _∷_, _++_}
 use mathlib.Core.Bool.{Bool, not}
 use Prim.Native.Nat.{ℕ, _+_}
@@ -14,28 +14,32 @@ use Rattle.block.specs.Block.{bitAt}
 use Rattle.memory.specs.PlainReading.{leafBit}
 use Rattle.memory.specs.True.{isTrue, clearedMap, blockAt}
 use Rattle.tracker.specs.declared.Access.{Access}
+use Rattle.tracker.specs.declared.Transfers.{Transfers}
 use Rattle.tracker.specs.declared.Tracker.{Tracker}
+use Rattle.tracker.specs.Transfers.{none}
 use Rattle.tracker.specs.Tracker.{issued, isIdle}
 use Rattle.tracker.specs.Answer.{Said, ok, no}
 use Rattle.line.specs.Find.{lineOf}
-use Rattle.rules.specs.State.{State, trackerAt, lengthsRight, begun, zeroState}
+use Rattle.rules.specs.State.{State, Rows, trackerAt, lengthsRight, begun, zeroState}
 use Rattle.rules.specs.Whole.{limits, whole}
-use Rattle.rules.specs.Place.{lineBytes, drained}
+use Rattle.rules.specs.Copies.{tally}
+use Rattle.rules.specs.Place.{lineBytes, drained, drainCopies}
 use Rattle.rules.specs.Step.{Turned, turnOf}
 
--- what a call says, and the state, line bytes and memory that it leaves
+-- what a call says, the state, line bytes and memory that it leaves, and the transfers that an ending or a drain carries
 pub record Out : Type 0 where
   pub said : Said
   pub state : State
   pub bytes : List ℕ
   pub memory : List ℕ
+  pub transfers : Transfers
 
 -- "Each refusal returns its number and the given state .. and all lent bytes stay as they came."
 abbrev pub refused : ℕ → State → List ℕ → List ℕ → Out
-refused c s bytes memory = record { said = no c; state = s; bytes = bytes; memory = memory }
+refused c s bytes memory = record { said = no c; state = s; bytes = bytes; memory = memory; transfers = none }
 
 abbrev pub accepted : State → List ℕ → List ℕ → Out
-accepted s bytes memory = record { said = ok; state = s; bytes = bytes; memory = memory }
+accepted s bytes memory = record { said = ok; state = s; bytes = bytes; memory = memory; transfers = none }
 
 -- "fresh 1, 2": "A fresh memory sets every map byte to 0 and touches nothing else."
 abbrev pub freshTests : Shape → List ℕ → List ℕ → Tests
@@ -89,6 +93,7 @@ stepped s x r = record {
   state = record { shape = r .shape; lines = r .rows .lines; trackers = set (s .trackers) x (r .tracker) };
   bytes = r .rows .bytes;
   memory = r .rows .memory;
+  transfers = r .transfers;
 }
 
 -- "step 4, 2, 5, 8": of tracker x, among the trackers us
@@ -118,10 +123,15 @@ drainNo s bytes memory = refusal (stateTests s bytes memory ++ drainTests (allId
 abbrev pub withLines : State → List ℕ → State
 withLines s ls = record { shape = s .shape; lines = ls; trackers = s .trackers }
 
+-- the state and the memory once the lines are drained. 02 E4: "Drain reports its write-backs apart."
+abbrev pub drainsTo : State → Rows → Out
+drainsTo s r =
+    let d = drained (s .shape .l) r in
+    record { said = ok; state = withLines s (d .lines); bytes = r .bytes; memory = d .memory; transfers = tally (drainCopies (s .shape .l) r) }
+
 unfoldable pub drain : State → List ℕ → List ℕ → Out
 drain s bytes memory =
-    let d = drained (s .shape .l) (record { lines = s .lines; bytes = bytes; memory = memory }) in
-    unless (drainNo s bytes memory) (accepted (withLines s (d .lines)) bytes (d .memory)) (λ c. refused c s bytes memory)
+    unless (drainNo s bytes memory) (drainsTo s (record { lines = s .lines; bytes = bytes; memory = memory })) (λ c. refused c s bytes memory)
 
 -- "show 4, 2, 6, 7"; the companion call gives this number
 abbrev pub showTests : Shape → (k : ℕ) (rest : Bool) → Tests

@@ -1,5 +1,5 @@
--- 01 "The cache": placing a block, bringing one in, writing one back, draining.
-use mathlib.Core.List.{List}
+-- 01 "The cache": placing a block, bringing one in, writing one back, draining; 02 E4: the copies of each.
+use mathlib.Core.List.{List, [], _∷_, _++_}
 use mathlib.Core.Bool.{Bool, false}
 use Prim.Native.Nat.{ℕ, zero, suc, _*_}
 use lib.Dec.{eqb, ltb, leb}
@@ -10,9 +10,12 @@ use Rattle.geometry.specs.declared.Shape.{Shape}
 use Rattle.geometry.specs.Shape.{atHand}
 use Rattle.geometry.specs.TagMemory.{blockPlace}
 use Rattle.block.specs.Block.{blockOr0}
+use Rattle.tracker.specs.declared.Transfers.{Transfers}
+use Rattle.tracker.specs.Transfers.{none}
 use Rattle.line.specs.Word.{blockOf, changed, word, cleaned}
 use Rattle.line.specs.Find.{lineOf, lowestFree, victim, after}
 use Rattle.rules.specs.State.{Rows}
+use Rattle.rules.specs.Copies.{Copy, fetch, back, tally}
 
 -- the 64 bytes of line i
 abbrev pub lineBytes : List ℕ → ℕ → List ℕ
@@ -41,17 +44,29 @@ unfoldable pub writtenBack : List ℕ → List ℕ → List ℕ → ℕ → List
 writtenBack lines bytes memory i =
     pick (changed (getD lines i 0)) (putW 64 memory (blockPlace (blockOf (getD lines i 0))) (lineBytes bytes i)) memory
 
+-- the copy that this is
+unfoldable pub backOf : List ℕ → ℕ → List Copy
+backOf lines i = pick (changed (getD lines i 0)) (back (blockOf (getD lines i 0)) ∷ []) []
+
 -- memory after placing
 unfoldable pub placeMemory : Shape → Rows → List ℕ
 placeMemory shape r =
     let i = placeLine shape (r .lines) (r .bytes) in
     pick (ltb i (shape .l)) (writtenBack (r .lines) (r .bytes) (r .memory) i) (r .memory)
 
--- a line, the shape with its hand and the rows after a block was brought in; the line is L where there was none to take, and then nothing changed
+-- the copies of placing
+unfoldable pub placeCopies : Shape → Rows → List Copy
+placeCopies shape r =
+    let i = placeLine shape (r .lines) (r .bytes) in
+    pick (ltb i (shape .l)) (backOf (r .lines) i) []
+
+-- a line, the shape with its hand, the rows and the sums of the copies after a block was brought in;
+-- the line is L where there was none to take, and then nothing changed
 pub record Brought : Type 0 where
   pub line : ℕ
   pub shape : Shape
   pub rows : Rows
+  pub copies : Transfers
 
 -- block b in line i with its bytes, changed or clean
 abbrev pub filled : Rows → ℕ → ℕ → Bool → List ℕ → Rows
@@ -70,10 +85,21 @@ bringIn shape b r =
     let i = lineOf (r .lines) l b in
     let p = placeLine shape (r .lines) (r .bytes) in
     let m = placeMemory shape r in
-    pick (ltb i l) (record { line = i; shape = shape; rows = r })
+    pick (ltb i l) (record { line = i; shape = shape; rows = r; copies = none })
     (pick (ltb p l)
-    (record { line = p; shape = atHand shape (placeHand shape (r .lines) (r .bytes)); rows = filled (withMemory r m) p b false (blockOr0 m (blockPlace b)) })
-    (record { line = l; shape = shape; rows = r }))
+    (record {
+      line = p;
+      shape = atHand shape (placeHand shape (r .lines) (r .bytes));
+      rows = filled (withMemory r m) p b false (blockOr0 m (blockPlace b));
+      copies = tally (placeCopies shape r ++ fetch b ∷ []);
+    })
+    (record { line = l; shape = shape; rows = r; copies = none }))
+
+-- the copies of bringing in
+unfoldable pub bringCopies : Shape → ℕ → Rows → List Copy
+bringCopies shape b r =
+    pick (ltb (lineOf (r .lines) (shape .l) b) (shape .l)) []
+    (pick (ltb (placeLine shape (r .lines) (r .bytes)) (shape .l)) (placeCopies shape r ++ fetch b ∷ []) [])
 
 -- "Drain writes changed lines to memory, lowest line first, and marks them clean; the lines stay.": the first i lines
 unfoldable pub drained : ℕ → Rows → Rows
@@ -81,3 +107,8 @@ drained zero r = r
 drained (suc i) r =
     let d = drained i r in
     record { lines = set (d .lines) i (cleaned (getD (d .lines) i 0)); bytes = d .bytes; memory = writtenBack (d .lines) (d .bytes) (d .memory) i }
+
+-- the copies of draining
+unfoldable pub drainCopies : ℕ → Rows → List Copy
+drainCopies zero r = []
+drainCopies (suc i) r = drainCopies i r ++ backOf (drained i r .lines) i

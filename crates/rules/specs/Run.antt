@@ -3,8 +3,9 @@ use mathlib.Core.List.{List, [], _∷_}
 use Prim.Native.Nat.{ℕ}
 use Rattle.laws.specs.Choice.{pick}
 use Rattle.tracker.specs.declared.Access.{Access}
+use Rattle.tracker.specs.declared.Transfers.{Transfers}
 use Rattle.tracker.specs.Answer.{Said}
-use Rattle.rules.specs.State.{State, lengthsRight}
+use Rattle.rules.specs.State.{State, Rows, lengthsRight}
 use Rattle.rules.specs.Calls.{Out, issue, step, drain}
 
 -- a call with what its caller names. `lends` is the call with other lent bytes, of other lengths; where their lengths are right they are the run's own.
@@ -23,9 +24,13 @@ pub record Kept : Type 0 where
 abbrev pub kept : Out → Kept
 kept o = record { state = o .state; bytes = o .bytes; memory = o .memory }
 
+-- the lines with the bytes and the memory
+abbrev pub rowsOf : Kept → Rows
+rowsOf k = record { lines = k .state .lines; bytes = k .bytes; memory = k .memory }
+
 -- a call that lent other bytes leaves the run's own alone
 abbrev pub elsewhere : Out → Kept → Out
-elsewhere o k = record { said = o .said; state = o .state; bytes = k .bytes; memory = k .memory }
+elsewhere o k = record { said = o .said; state = o .state; bytes = k .bytes; memory = k .memory; transfers = o .transfers }
 
 unfoldable pub does : Kept → Call → Out
 does k (issues x a) = issue (k .state) (k .bytes) (k .memory) x a
@@ -43,3 +48,8 @@ answers k (c ∷ cs) = does k c .said ∷ answers (kept (does k c)) cs
 unfoldable pub ended : Kept → List Call → Kept
 ended k [] = k
 ended k (c ∷ cs) = ended (kept (does k c)) cs
+
+-- the transfers that the calls of a run carry, in order
+unfoldable pub transfers : Kept → List Call → List Transfers
+transfers k [] = []
+transfers k (c ∷ cs) = does k c .transfers ∷ transfers (kept (does k c)) cs

@@ -11,35 +11,39 @@ use Rattle.laws.specs.Choice.{pick, both}
 use Rattle.block.specs.Block.{groupAt, putGroup, bitAt, putBit, allZero}
 use Rattle.tracker.specs.declared.Phase.{Phase}
 use Rattle.tracker.specs.declared.Phase.the-variants.{Idle, Probe, Map, Leaf, Set, Clear}
+use Rattle.tracker.specs.declared.Transfers.{Transfers}
 use Rattle.tracker.specs.declared.Tracker.{Tracker}
+use Rattle.tracker.specs.Transfers.{none, plus}
 use Rattle.tracker.specs.Tracker.{idle, tick, goesTo, counted}
 use Rattle.tracker.specs.Answer.{Said, wait, moved, read, done, same, no}
 use Rattle.line.specs.Word.{blockOf, held, heldBy, word, holders}
 use Rattle.line.specs.Find.{lineOf}
 use Rattle.rules.specs.State.{Rows, lengthsRight}
 use Rattle.rules.specs.Whole.{mapBlock}
-use Rattle.rules.specs.Place.{lineBytes, placeLine, placeHand, placeMemory, Brought, filled, withMemory, withLines, bringIn}
+use Rattle.rules.specs.Copies.{tally}
+use Rattle.rules.specs.Place.{lineBytes, placeLine, placeHand, placeMemory, placeCopies, Brought, filled, withMemory, withLines, bringIn}
 
--- what a step leaves: what it says, the shape with its hand, the tracker, the rows
+-- what a step leaves: what it says, the shape with its hand, the tracker, the rows; and the transfers that an ending carries
 pub record Turned : Type 0 where
   pub said : Said
   pub shape : Shape
   pub tracker : Tracker
   pub rows : Rows
+  pub transfers : Transfers
 
--- "a tracker that ends becomes so again": idle, every field zero
-abbrev pub ends : Said → Shape → Rows → Turned
-ends a shape r = record { said = a; shape = shape; tracker = idle; rows = r }
+-- "a tracker that ends becomes so again": idle, every field zero. 02 E4: "An ending carries the two sums"; `more` are those of this step.
+abbrev pub ends : Said → Shape → Tracker → (more : Transfers) → Rows → Turned
+ends a shape t more r = record { said = a; shape = shape; tracker = idle; rows = r; transfers = plus (t .transfers) more }
 
-abbrev pub goes : Tracker → Phase → Shape → Rows → Turned
-goes t p shape r = record { said = moved; shape = shape; tracker = goesTo t p; rows = r }
+abbrev pub goes : Tracker → Phase → (more : Transfers) → Shape → Rows → Turned
+goes t p more shape r = record { said = moved; shape = shape; tracker = goesTo t p more; rows = r; transfers = none }
 
 -- "wait, nothing changes but the turn count"
 abbrev pub waits : Tracker → Shape → Rows → Turned
-waits t shape r = record { said = wait; shape = shape; tracker = counted t; rows = r }
+waits t shape r = record { said = wait; shape = shape; tracker = counted t; rows = r; transfers = none }
 
 abbrev pub refuses : ℕ → Tracker → Shape → Rows → Turned
-refuses c t shape r = record { said = no c; shape = shape; tracker = t; rows = r }
+refuses c t shape r = record { said = no c; shape = shape; tracker = t; rows = r; transfers = none }
 
 -- "Each ending carries its turns: steps given since the issue"
 abbrev pub turnsOf : Tracker → ℕ
@@ -62,8 +66,8 @@ letGo changed lines i =
     set lines i (pick changed (word (blockOf w) true 0) (heldBy w 0))
 
 -- "end .., let go": every ending of a tracker that holds its map block, which is in line j
-abbrev pub letsGo : Said → Shape → (changed : Bool) (j : ℕ) → Rows → Turned
-letsGo a shape changed j r = ends a shape (withLines r (letGo changed (r .lines) j))
+abbrev pub letsGo : Said → Shape → Tracker → (more : Transfers) (changed : Bool) (j : ℕ) → Rows → Turned
+letsGo a shape t more changed j r = ends a shape t more (withLines r (letGo changed (r .lines) j))
 
 -- "Leaf in a line: a read ends with the group; a write whose group equals v ends 'same'. Otherwise on to Map."
 unfoldable pub probe : Shape → Tracker → Rows → Turned
@@ -71,18 +75,19 @@ probe shape t r =
     let i = lineOf (r .lines) (shape .l) (leafOf (t .group)) in
     let v = groupIn (r .bytes) i (t .group) in
     pick (ltb i (shape .l))
-    (pick (t .write) (pick (eqb v (t .value)) (ends (same (turnsOf t)) shape r) (goes t Map shape r)) (ends (read v (turnsOf t)) shape r))
-    (goes t Map shape r)
+    (pick (t .write) (pick (eqb v (t .value)) (ends (same (turnsOf t)) shape t none r) (goes t Map none shape r)) (ends (read v (turnsOf t)) shape t none r))
+    (goes t Map none shape r)
 
 -- "hold the map block, on to Leaf"
 abbrev pub holdsMap : ℕ → Tracker → Brought → Turned
-holdsMap x t b = goes t Leaf (b .shape) (withLines (b .rows) (held-by (b .rows .lines) (b .line) x))
+holdsMap x t b = goes t Leaf (b .copies) (b .shape) (withLines (b .rows) (held-by (b .rows .lines) (b .line) x))
 
 -- "Bit 0: a read ends with 0; a write of 0 ends 'same'. Otherwise hold the map block, on to Leaf."
 unfoldable pub onMap : ℕ → Tracker → Brought → Turned
 onMap x t b =
     pick (eqb (bitIn (b .rows .bytes) (b .line) (t .group)) 0)
-    (pick (t .write) (pick (eqb (t .value) 0) (ends (same (turnsOf t)) (b .shape) (b .rows)) (holdsMap x t b)) (ends (read 0 (turnsOf t)) (b .shape) (b .rows)))
+    (pick (t .write) (pick (eqb (t .value) 0) (ends (same (turnsOf t)) (b .shape) t (b .copies) (b .rows)) (holdsMap x t b))
+    (ends (read 0 (turnsOf t)) (b .shape) t (b .copies) (b .rows)))
     (holdsMap x t b)
 
 -- "If another tracker holds this map block: wait .. Else bring it in."
@@ -99,7 +104,7 @@ unfoldable pub leafRead : Shape → ℕ → Tracker → Rows → Turned
 leafRead shape j t r =
     let b = bringIn shape (leafOf (t .group)) r in
     pick (ltb (b .line) (shape .l))
-    (letsGo (read (groupIn (b .rows .bytes) (b .line) (t .group)) (turnsOf t)) (b .shape) false j (b .rows))
+    (letsGo (read (groupIn (b .rows .bytes) (b .line) (t .group)) (turnsOf t)) (b .shape) t (b .copies) false j (b .rows))
     (refuses 4 t shape r)
 
 -- "Else put v in. All 64 bytes now zero: the line is made free without writing to memory, on to Finish (clear).
@@ -109,8 +114,8 @@ putIn j t b =
     let i = b .line in
     let bytes = putGroup (b .rows .bytes) (blockPlace i + byteOf (t .group)) (t .value) in
     pick (allZero (lineBytes bytes i))
-    (goes t Clear (b .shape) (record { lines = set (b .rows .lines) i 0; bytes = bytes; memory = b .rows .memory }))
-    (letsGo (done (turnsOf t)) (b .shape) false j
+    (goes t Clear (b .copies) (b .shape) (record { lines = set (b .rows .lines) i 0; bytes = bytes; memory = b .rows .memory }))
+    (letsGo (done (turnsOf t)) (b .shape) t (b .copies) false j
     (record { lines = set (b .rows .lines) i (word (leafOf (t .group)) true 0); bytes = bytes; memory = b .rows .memory }))
 
 -- "Bit 1: bring in the leaf .. group equal to v: end 'same', let go."
@@ -119,7 +124,7 @@ writeUnder1 shape j t r =
     let b = bringIn shape (leafOf (t .group)) r in
     pick (ltb (b .line) (shape .l))
     (pick (eqb (groupIn (b .rows .bytes) (b .line) (t .group)) (t .value))
-    (letsGo (same (turnsOf t)) (b .shape) false j (b .rows))
+    (letsGo (same (turnsOf t)) (b .shape) t (b .copies) false j (b .rows))
     (putIn j t b))
     (refuses 4 t shape r)
 
@@ -132,10 +137,11 @@ unfoldable pub writeUnder0 : Shape → ℕ → Tracker → Rows → Turned
 writeUnder0 shape j t r =
     let i = lineOf (r .lines) (shape .l) (leafOf (t .group)) in
     let p = placeLine shape (r .lines) (r .bytes) in
-    pick (eqb (t .value) 0) (letsGo (same (turnsOf t)) shape false j r)
-    (pick (ltb i (shape .l)) (goes t Set shape (filled r i (leafOf (t .group)) true (newLeaf t)))
+    pick (eqb (t .value) 0) (letsGo (same (turnsOf t)) shape t none false j r)
+    (pick (ltb i (shape .l)) (goes t Set none shape (filled r i (leafOf (t .group)) true (newLeaf t)))
     (pick (ltb p (shape .l))
-    (goes t Set (atHand shape (placeHand shape (r .lines) (r .bytes))) (filled (withMemory r (placeMemory shape r)) p (leafOf (t .group)) true (newLeaf t)))
+    (goes t Set (tally (placeCopies shape r)) (atHand shape (placeHand shape (r .lines) (r .bytes)))
+    (filled (withMemory r (placeMemory shape r)) p (leafOf (t .group)) true (newLeaf t)))
     (refuses 4 t shape r)))
 
 -- "The bit is read again in the held map line."
@@ -146,7 +152,7 @@ leafWrite shape j t r = pick (eqb (bitIn (r .bytes) j (t .group)) 0) (writeUnder
 unfoldable pub finish : Shape → ℕ → ℕ → Tracker → Rows → Turned
 finish shape j bit t r =
     let k = leafOf (t .group) in
-    letsGo (done (turnsOf t)) shape true j
+    letsGo (done (turnsOf t)) shape t none true j
     (record { lines = r .lines; bytes = putBit (r .bytes) (blockPlace j + mapByteOf k) (mapBitOf k) bit; memory = r .memory })
 
 -- a step from Leaf or Finish, where the tracker holds its map block, which is in line j

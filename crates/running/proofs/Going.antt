@@ -65,7 +65,7 @@ going-more {k} {calls} {answers} {i} {r} g =
 
 -- what a turn leaves is its `Out`
 told : (s : State) (answers : List ℕ) (at x : ℕ) (q : left.Turned) {want : Turned} {lines bytes memory answers' : List ℕ}
-    → turned q lines bytes memory ≡ want → answers' ≡ splice answers at (saidCoded (says (q .answer)))
+    → turned q lines bytes memory ≡ want → answers' ≡ splice answers at (saidCoded (says (q .answer)) (q .transfers))
     → under (q .shape) lines (set (s .trackers) x (q .tracker)) bytes memory answers' ≡ after answers at (stepped s x want)
 told s answers at x q st a = rw a (ap (λ (y : Turned). after answers at (stepped s x y)) st)
 
@@ -76,7 +76,7 @@ pub going-call : {k : Kept} {calls begun : List ℕ} {i : ℕ} (shape : Shape) (
     → ((j : Kept) → takes j b ≡ takes j (askedIn calls (6 * i)))
     → x ≡ named (shape .t) b
     → turned q lines' bytes' memory' ≡ askedTurn shape b trackers (trackerAt trackers x) (rows lines bytes memory)
-    → answers' ≡ splice answers (6 * i) (saidCoded (says (q .answer)))
+    → answers' ≡ splice answers (6 * i) (saidCoded (says (q .answer)) (q .transfers))
     → Going k calls begun (i + 1) (under (q .shape) lines' (set trackers x (q .tracker)) bytes' memory' answers')
 going-call {k} {calls} {begun} {i} shape lines trackers bytes memory answers x b q g be xe st o =
     let s : State = record { shape = shape; lines = lines; trackers = trackers } in

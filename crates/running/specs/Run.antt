@@ -41,7 +41,7 @@ pub record Ran : Type 0 where
 
 -- after a call whose answer stands at `at`
 abbrev pub after : List ℕ → ℕ → Out → Ran
-after answers at o = record { kept = kept o; answers = splice answers at (saidCoded (o .said)) }
+after answers at o = record { kept = kept o; answers = splice answers at (saidCoded (o .said) (o .transfers)) }
 
 -- the first i calls, each on what the one before passed on
 unfoldable pub ran : Kept → (calls answers : List ℕ) → ℕ → Ran

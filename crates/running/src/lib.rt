@@ -3,6 +3,7 @@
 use cache::State;
 use geometry::Geometry;
 use tracker::Answer;
+use tracker::Transfers;
 use turn::Asked;
 ghost use mathlib.Core.Path.{_≡_};
 ghost use mathlib.Core.Bool.{true};
@@ -58,11 +59,11 @@ fn asked_in(calls: &[u64], at: usize) -> Asked
 }
 
 // An answer's words, from `at` on.
-fn put_at(answers: &mut [u64], at: usize, answer: Answer)
+fn put_at(answers: &mut [u64], at: usize, answer: Answer, t: Transfers)
     requires { ⌜ at + answerWords ≤ length (now answers) ⌝ }
-    ensures { λ _. ⌜ now (answers .exit) ≡ splice (now (answers .entry)) at (saidCoded (says answer)) ⌝ }
+    ensures { λ _. ⌜ now (answers .exit) ≡ splice (now (answers .entry)) at (saidCoded (says answer) t) ⌝ }
 {
-    coding::put_said(answer, &mut answers[at..at + coding::ANSWER_WORDS]);
+    coding::put_said(answer, t, &mut answers[at..at + coding::ANSWER_WORDS]);
 }
 
 // The calls, one after another: the rows are copied out of the state once, and lent to each call.
@@ -94,7 +95,8 @@ fn run_calls(
         let v = r.tracker;
         trackers[x] = v;
         let answer = r.answer;
-        put_at(answers, place, answer);
+        let transfers = r.transfers;
+        put_at(answers, place, answer, transfers);
         i += 1;
     }
     State {

@@ -15,7 +15,9 @@ use Rattle.geometry.proofs.Limits.{inLimits-most}
 use Rattle.block.specs.Block.{putBit}
 use Rattle.tracker.specs.declared.Phase.{Phase}
 use Rattle.tracker.specs.declared.Phase.the-variants.{Probe, Leaf, Set, Clear}
+use Rattle.tracker.specs.declared.Transfers.{Transfers}
 use Rattle.tracker.specs.declared.Tracker.{Tracker}
+use Rattle.tracker.specs.Transfers.{none}
 use Rattle.tracker.specs.Answer.{read, done, same}
 use Rattle.line.specs.Word.{held, heldBy, holders}
 use Rattle.line.specs.Find.{lineOf}
@@ -29,9 +31,9 @@ use Rattle.leaf.specs.Leaf.{probeOn, leafOn}
 use Rattle.leaf.proofs.Ways.{probeOn-fit}
 
 -- Map, the map block in a line
-pub holds-is : (x i : ℕ) (shape : Shape) (w : ℕ) (t : Tracker) (lines bs m : List ℕ) → w ≡ heldBy (getD lines i 0) (x + 1)
-    → holdsMap x t (record { line = i; shape = shape; rows = rows lines bs m }) ≡ goes t Leaf shape (rows (set lines i w) bs m)
-holds-is x i shape w t lines bs m e = rw e refl
+pub holds-is : (x i : ℕ) (shape : Shape) (more : Transfers) (w : ℕ) (t : Tracker) (lines bs m : List ℕ) → w ≡ heldBy (getD lines i 0) (x + 1)
+    → holdsMap x t (left i shape more lines bs m) ≡ goes t Leaf more shape (rows (set lines i w) bs m)
+holds-is x i shape more w t lines bs m e = rw e refl
 
 module _ (x bit : ℕ) (t : Tracker) (b : Brought) (e : bit ≡ bitIn (b .rows .bytes) (b .line) (t .group)) where
   pub onMap-under-1 : (bit ≡ 0 → ⊥) → onMap x t b ≡ holdsMap x t b
@@ -39,11 +41,11 @@ module _ (x bit : ℕ) (t : Tracker) (b : Brought) (e : bit ≡ bitIn (b .rows .
   onMap-under-1 q = rw (← e, ne-eqb _ _ q) refl
 
   module _ (z : bit ≡ 0) where
-    pub onMap-read : t .write ≡ false → onMap x t b ≡ ends (read 0 (turnsOf t)) (b .shape) (b .rows)
+    pub onMap-read : t .write ≡ false → onMap x t b ≡ ends (read 0 (turnsOf t)) (b .shape) t (b .copies) (b .rows)
     unfolding onMap
     onMap-read w = rw (← e, eq-eqb _ _ z, w) refl
 
-    pub onMap-same : t .write ≡ true → t .value ≡ 0 → onMap x t b ≡ ends (same (turnsOf t)) (b .shape) (b .rows)
+    pub onMap-same : t .write ≡ true → t .value ≡ 0 → onMap x t b ≡ ends (same (turnsOf t)) (b .shape) t (b .copies) (b .rows)
     unfolding onMap
     onMap-same w q = rw (← e, eq-eqb _ _ z, w, eq-eqb _ _ q) refl
 
@@ -57,13 +59,13 @@ module _ (shape : Shape) (x i b : ℕ) (t : Tracker) (lines bytes memory : List 
   unfolding map both
   map-waits h w = rw (← eb, ← e, lt-ltb _ _ h, w) refl
 
-  pub map-lined : i < shape .l → held (getD lines i 0) ≡ false
-      → map shape x t (rows lines bytes memory) ≡ onMap x t (record { line = i; shape = shape; rows = rows lines bytes memory })
+  pub map-lined : {z : Transfers} → i < shape .l → held (getD lines i 0) ≡ false → z ≡ none
+      → map shape x t (rows lines bytes memory) ≡ onMap x t (left i shape z lines bytes memory)
   unfolding map both bringIn
-  map-lined h w = rw (← eb, ← e, lt-ltb _ _ h, w, lt-ltb _ _ h) refl
+  map-lined h w ez = rw (← eb, ← e, lt-ltb _ _ h, w, lt-ltb _ _ h, ez) refl
 
-  module _ (h : shape .l ≤ i) (at : ℕ) (next : Shape) (ls bs m : List ℕ) (g : left at next ls bs m ≡ fetched shape b (rows lines bytes memory)) where
-    brought : bringIn shape (mapBlock (shape .n) (t .group)) (rows lines bytes memory) ≡ (record { line = at; shape = next; rows = rows ls bs m })
+  module _ (h : shape .l ≤ i) (at : ℕ) (next : Shape) (more : Transfers) (ls bs m : List ℕ) (g : left at next more ls bs m ≡ fetched shape b (rows lines bytes memory)) where
+    brought : bringIn shape (mapBlock (shape .n) (t .group)) (rows lines bytes memory) ≡ left at next more ls bs m
     brought = rw (← eb, bringIn-fetched shape lines bytes memory b (omega arith)) (sym g)
 
     pub map-none : shape .l ≤ at → map shape x t (rows lines bytes memory) ≡ refuses 4 t shape (rows ls bs m)
@@ -73,15 +75,15 @@ module _ (shape : Shape) (x i b : ℕ) (t : Tracker) (lines bytes memory : List 
         let k : rows ls bs m ≡ rows lines bytes memory = rows-are g ∙ f in
         rw (brought, ← eb, ← e, le-ltb _ _ h, le-ltb _ _ o, k) refl
 
-    pub map-fetched : at < shape .l → map shape x t (rows lines bytes memory) ≡ onMap x t (record { line = at; shape = next; rows = rows ls bs m })
+    pub map-fetched : at < shape .l → map shape x t (rows lines bytes memory) ≡ onMap x t (left at next more ls bs m)
     unfolding map both
     map-fetched o = rw (brought, ← eb, ← e, le-ltb _ _ h, lt-ltb _ _ o) refl
 
 -- Finish
-pub finish-is : (shape : Shape) (j v k y z : ℕ) (t : Tracker) (lines bytes bs m gone : List ℕ) → k ≡ leafOf (t .group) → y ≡ mapByteOf k → z ≡ mapBitOf k
-    → gone ≡ letGo true lines j → bs ≡ putBit bytes (64 * j + y) z v → finish shape j v t (rows lines bytes m) ≡ ends (done (turnsOf t)) shape (rows gone bs m)
+pub finish-is : (shape : Shape) (j v k y z : ℕ) (t : Tracker) {more : Transfers} (lines bytes bs m gone : List ℕ) → more ≡ none → k ≡ leafOf (t .group) → y ≡ mapByteOf k → z ≡ mapBitOf k
+    → gone ≡ letGo true lines j → bs ≡ putBit bytes (64 * j + y) z v → finish shape j v t (rows lines bytes m) ≡ ends (done (turnsOf t)) shape t more (rows gone bs m)
 unfolding finish
-finish-is shape j v k y z t lines bytes bs m gone ek ey ez eg e = rw (e, eg, ez, ey, ek) refl
+finish-is shape j v k y z t lines bytes bs m gone en ek ey ez eg e = rw (e, eg, ez, ey, ek, en) refl
 
 -- the steps of a tracker that holds its map block
 module _ (shape : Shape) (j b : ℕ) (t : Tracker) (r : Rows) (eb : b ≡ mapBlock (shape .n) (t .group)) (e : j ≡ lineOf (r .lines) (shape .l) b) where

@@ -3,8 +3,10 @@
 use geometry::Geometry;
 use geometry::Shape;
 use outcome::Turned;
+use placing::Spot;
 use tracker::Phase;
 use tracker::Tracker;
+use tracker::Transfers;
 ghost use mathlib.Core.Path.{_≡_};
 ghost use mathlib.Core.List.{List};
 ghost use Prim.Native.Nat.{ℕ, _+_, _*_, _≤_, _<_};
@@ -16,7 +18,7 @@ ghost use Rattle.tracker.specs.declared.Phase.the-variants.{Leaf, Set, Clear};
 ghost use Rattle.rules.specs.State.{lengthsRight};
 ghost use Rattle.rules.specs.Whole.{mapBlock};
 ghost use Rattle.rules.specs.Step.{bitIn, holdsMap, onMap, map, finish, inLine, byPhase, fit, turnOf};
-ghost use Rattle.placing.specs.Lines.{rows};
+ghost use Rattle.placing.specs.Lines.{rows, brought};
 ghost use Rattle.outcome.specs.Steps.{turned};
 
 // The map block of group g.
@@ -40,30 +42,31 @@ fn bit_in(bytes: &[u8], i: usize, g: u32) -> u8
     )
 }
 
-// Line i's block is held by tracker x, which goes on to Leaf.
-fn holds_map(x: u32, i: usize, shape: Shape, t: Tracker, lines: &mut [u32]) -> Turned
-    requires { ⌜ (x < holders) × (i < length (now lines)) ⌝ }
-    ensures { λ r. ⌜ ((bs m : List ℕ) → turned r (now (lines .exit)) bs m ≡ holdsMap x t (record { line = i; shape = shape; rows = rows (now (lines .entry)) bs m })) ⌝ }
+// The line's block is held by tracker x, which goes on to Leaf.
+fn holds_map(x: u32, spot: Spot, t: Tracker, lines: &mut [u32]) -> Turned
+    requires { ⌜ (x < holders) × (spot .line < length (now lines)) ⌝ }
+    ensures { λ r. ⌜ ((bs m : List ℕ) → turned r (now (lines .exit)) bs m ≡ holdsMap x t (brought spot (now (lines .entry)) bs m)) ⌝ }
 {
+    let i = spot.line;
     lines[i] = line::held_by(lines[i], x + 1);
-    outcome::goes(shape, t, Phase::Leaf)
+    outcome::goes(spot.shape, t, spot.copies, Phase::Leaf)
 }
 
-// Map, with the map block in line i. Bit 0: a read ends with 0; a write of 0 ends "same". Otherwise hold the map block, on to Leaf.
-fn on_map(x: u32, i: usize, shape: Shape, t: Tracker, lines: &mut [u32], bytes: &[u8]) -> Turned
-    requires { ⌜ (x < holders) × (i < length (now lines)) × (64 * i + 64 ≤ length (now bytes)) ⌝ }
-    ensures { λ r. ⌜ ((m : List ℕ) → turned r (now (lines .exit)) (now (bytes .entry)) m ≡ onMap x t (record { line = i; shape = shape; rows = rows (now (lines .entry)) (now (bytes .entry)) m })) ⌝ }
+// Map, with the map block in its line. Bit 0: a read ends with 0; a write of 0 ends "same". Otherwise hold the map block, on to Leaf.
+fn on_map(x: u32, spot: Spot, t: Tracker, lines: &mut [u32], bytes: &[u8]) -> Turned
+    requires { ⌜ (x < holders) × (spot .line < length (now lines)) × (64 * spot .line + 64 ≤ length (now bytes)) ⌝ }
+    ensures { λ r. ⌜ ((m : List ℕ) → turned r (now (lines .exit)) (now (bytes .entry)) m ≡ onMap x t (brought spot (now (lines .entry)) (now (bytes .entry)) m)) ⌝ }
 {
-    if bit_in(bytes, i, t.group) != 0 {
-        return holds_map(x, i, shape, t, lines);
+    if bit_in(bytes, spot.line, t.group) != 0 {
+        return holds_map(x, spot, t, lines);
     }
     if !t.write {
-        return outcome::ends_read(shape, t, 0);
+        return outcome::ends_read(spot.shape, t, spot.copies, 0);
     }
     if t.value == 0 {
-        return outcome::ends_same(shape, t);
+        return outcome::ends_same(spot.shape, t, spot.copies);
     }
-    holds_map(x, i, shape, t, lines)
+    holds_map(x, spot, t, lines)
 }
 
 // Map. If another tracker holds this map block: wait. Else bring it in.
@@ -85,14 +88,19 @@ fn map(
         if line::held(lines[i]) {
             return outcome::waits(shape, t);
         }
-        return on_map(x, i, shape, t, lines, bytes);
+        let lined = Spot {
+            line: i,
+            shape,
+            copies: Transfers::none(),
+        };
+        return on_map(x, lined, t, lines, bytes);
     }
     let spot = placing::fetch(shape, b, lines, bytes, memory);
     let at = spot.line;
     if l <= at {
         return outcome::refuses(4, shape, t);
     }
-    on_map(x, at, spot.shape, t, lines, bytes)
+    on_map(x, spot, t, lines, bytes)
 }
 
 // Leaf, where the tracker holds its map block; 4 where no line has it. The bit is read again in the held map line.
@@ -135,7 +143,7 @@ fn finish(
         set,
     );
     leaf::let_go(lines, j, true);
-    outcome::ends_done(shape, t)
+    outcome::ends_done(shape, t, Transfers::none())
 }
 
 // Finish, where the tracker holds its map block; 4 where no line has it.

@@ -5,9 +5,10 @@ use Prim.Native.Nat.{ℕ, _+_}
 use lib.ListN.{length}
 use Rattle.laws.specs.Bytes.{splice}
 use Rattle.tracker.specs.Answer.{Said}
+use Rattle.tracker.specs.declared.Transfers.{Transfers}
 use Rattle.text.specs.Text.{lineIn}
 
-pub put-line-one : (m : List ℕ) (a k : ℕ) (said : Said) {x y : List ℕ} {r q : ℕ}
-    → (x ≡ splice m a (lineIn m a k said)) × (r ≡ a + length (lineIn m a k said))
-    → (y ≡ splice m a (lineIn m a k said)) × (q ≡ a + length (lineIn m a k said)) → (x ≡ y) × (r ≡ q)
-put-line-one m a k said e f = (e .0 ∙ sym (f .0), e .1 ∙ sym (f .1))
+pub put-line-one : (m : List ℕ) (a k : ℕ) (said : Said) (t : Transfers) {x y : List ℕ} {r q : ℕ}
+    → (x ≡ splice m a (lineIn m a k said t)) × (r ≡ a + length (lineIn m a k said t))
+    → (y ≡ splice m a (lineIn m a k said t)) × (q ≡ a + length (lineIn m a k said t)) → (x ≡ y) × (r ≡ q)
+put-line-one m a k said t e f = (e .0 ∙ sym (f .0), e .1 ∙ sym (f .1))

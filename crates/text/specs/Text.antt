@@ -5,8 +5,9 @@ use Prim.Native.Nat.{ℕ, zero, suc, _+_, _/_, _%_, _^_, _<_}
 use lib.Dec.{ltb}
 use Rattle.laws.specs.Choice.{pick}
 use Rattle.laws.specs.Bytes.{fits}
-use Rattle.text.specs.Words.{space, newline, okWord, waitWord, movedWord, noWord, readWord, doneWord, sameWord, turnsWord}
+use Rattle.text.specs.Words.{space, newline, okWord, waitWord, movedWord, noWord, readWord, doneWord, sameWord, turnsWord, inWord, outWord}
 use Rattle.tracker.specs.Answer.{Said, ok, wait, moved, read, done, same, no}
+use Rattle.tracker.specs.declared.Transfers.{Transfers}
 
 -- a digit's byte, `0` to `9` and `a` to `f`
 unfoldable pub digitText : ℕ → ℕ
@@ -63,18 +64,36 @@ Narrow (done k) = k < 65536
 Narrow (same k) = k < 65536
 Narrow (no c) = c < 256
 
--- "Output: line number, space, then" what is said
-unfoldable pub answerLine : ℕ → Said → List ℕ
-answerLine n said = decimal n ++ (space ++ saidText said)
+-- ` in I out O`: blocks fetched, blocks written back
+unfoldable pub transfersText : Transfers → List ℕ
+transfersText t = (inWord ++ decimal (t .fetched)) ++ (outWord ++ decimal (t .back))
+
+-- "The replay endings gain ` in I out O`" (02, E4), other answers nothing
+unfoldable pub gains : Said → Transfers → List ℕ
+gains ok t = []
+gains wait t = []
+gains moved t = []
+gains (read v k) t = transfersText t
+gains (done k) t = transfersText t
+gains (same k) t = transfersText t
+gains (no c) t = []
+
+-- the sums that endings carry stay at 255
+abbrev pub Few : Transfers → Type 0
+Few t = (t .fetched < 256) × (t .back < 256)
+
+-- "Output: line number, space, then" what is said, and what it gains
+unfoldable pub answerLine : ℕ → Said → Transfers → List ℕ
+answerLine n said t = decimal n ++ (space ++ (saidText said ++ gains said t))
 
 -- with its newline
-unfoldable pub lineText : ℕ → Said → List ℕ
-lineText n said = answerLine n said ++ newline
+unfoldable pub lineText : ℕ → Said → Transfers → List ℕ
+lineText n said t = answerLine n said t ++ newline
 
 -- the bytes that are kept free for a line; none is longer
 abbrev pub most : ℕ
 most = 64
 
 -- what is put into `out` from `at`: the line where there is room for any, else nothing
-unfoldable pub lineIn : List ℕ → ℕ → ℕ → Said → List ℕ
-lineIn out at k said = pick (fits out at most) (lineText k said) []
+unfoldable pub lineIn : List ℕ → ℕ → ℕ → Said → Transfers → List ℕ
+lineIn out at k said t = pick (fits out at most) (lineText k said t) []

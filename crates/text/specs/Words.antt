@@ -35,7 +35,7 @@ sameWord = 115 ∷ 97 ∷ 109 ∷ 101 ∷ []
 abbrev pub turnsWord : List ℕ
 turnsWord = 32 ∷ 116 ∷ 117 ∷ 114 ∷ 110 ∷ 115 ∷ 32 ∷ []
 
--- ` in ` and ` out `, before the transfers (request E4)
+-- ` in ` and ` out `, before an ending's transfers
 abbrev pub inWord : List ℕ
 inWord = 32 ∷ 105 ∷ 110 ∷ 32 ∷ []
 

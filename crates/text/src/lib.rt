@@ -1,13 +1,14 @@
 // 01 "The replay program": the text of an answer, a line of the output.
 // No public function has a `requires`.
 use tracker::Answer;
+use tracker::Transfers;
 ghost use mathlib.Core.Path.{_≡_};
 ghost use mathlib.Core.List.{_++_};
 ghost use Prim.Native.Nat.{_+_, _≤_, _<_};
 ghost use lib.ListN.{length};
 ghost use Rattle.laws.specs.Bytes.{splice};
 ghost use Rattle.tracker.specs.Answer.{says, read};
-ghost use Rattle.text.specs.Text.{digitText, digits, places, decimal, saidText, lineText, most, lineIn};
+ghost use Rattle.text.specs.Text.{digitText, digits, places, decimal, saidText, transfersText, gains, lineText, most, lineIn};
 
 // The bytes that are kept free for a line; none is longer.
 pub const MOST: usize = 64;
@@ -129,20 +130,54 @@ fn put_said(out: &mut [u8], at: usize, answer: Answer) -> usize
     }
 }
 
+// ` in I out O`, at most 15 bytes; gives the place after it.
+fn put_transfers(out: &mut [u8], at: usize, transfers: Transfers) -> usize
+    requires { ⌜ at + 15 ≤ length (now out) ⌝ }
+    ensures { λ r. ⌜ (now (out .exit) ≡ splice (now (out .entry)) at (transfersText transfers)) × (r ≡ at + length (transfersText transfers)) × (r ≤ at + 15) ⌝ }
+{
+    let p = put_count(out, at, b" in ", wide8(transfers.fetched));
+    put_count(out, p, b" out ", wide8(transfers.back))
+}
+
+// What the answer gains, at most 15 bytes; gives the place after it.
+fn put_gains(out: &mut [u8], at: usize, answer: Answer, transfers: Transfers) -> usize
+    requires { ⌜ at + 15 ≤ length (now out) ⌝ }
+    ensures { λ r. ⌜ (now (out .exit) ≡ splice (now (out .entry)) at (gains (says answer) transfers)) × (r ≡ at + length (gains (says answer) transfers)) × (r ≤ at + 15) ⌝ }
+{
+    match answer {
+        Answer::Accepted => at,
+        Answer::Wait => at,
+        Answer::Moved => at,
+        Answer::Read(_, _) => put_transfers(out, at, transfers),
+        Answer::Done(_) => put_transfers(out, at, transfers),
+        Answer::Same(_) => put_transfers(out, at, transfers),
+        Answer::No(_) => at,
+    }
+}
+
+// What is said and what it gains, at most 40 bytes; gives the place after it.
+fn put_answer(out: &mut [u8], at: usize, answer: Answer, transfers: Transfers) -> usize
+    requires { ⌜ at + 40 ≤ length (now out) ⌝ }
+    ensures { λ r. ⌜ (now (out .exit) ≡ splice (now (out .entry)) at (saidText (says answer) ++ gains (says answer) transfers)) × (r ≡ at + length (saidText (says answer) ++ gains (says answer) transfers)) × (r ≤ at + 40) ⌝ }
+{
+    let p = put_said(out, at, answer);
+    put_gains(out, p, answer, transfers)
+}
+
 // The line where there is room for it.
-fn put_room(out: &mut [u8], at: usize, k: u64, answer: Answer) -> usize
+fn put_room(out: &mut [u8], at: usize, k: u64, answer: Answer, transfers: Transfers) -> usize
     requires { ⌜ at + most ≤ length (now out) ⌝ }
-    ensures { λ r. ⌜ (now (out .exit) ≡ splice (now (out .entry)) at (lineText k (says answer))) × (r ≡ at + length (lineText k (says answer))) ⌝ }
+    ensures { λ r. ⌜ (now (out .exit) ≡ splice (now (out .entry)) at (lineText k (says answer) transfers)) × (r ≡ at + length (lineText k (says answer) transfers)) ⌝ }
 {
     let p = put_decimal(out, at, k);
     let q = put(out, p, b" ");
-    let e = put_said(out, q, answer);
+    let e = put_answer(out, q, answer, transfers);
     put(out, e, b"\n")
 }
 
 // The line goes into `out` from `at` where there is room for any line, else nothing changes; gives the place after it.
-pub fn put_line(out: &mut [u8], at: usize, k: u64, answer: Answer) -> usize
-    ensures { λ r. ⌜ (now (out .exit) ≡ splice (now (out .entry)) at (lineIn (now (out .entry)) at k (says answer))) × (r ≡ at + length (lineIn (now (out .entry)) at k (says answer))) ⌝ }
+pub fn put_line(out: &mut [u8], at: usize, k: u64, answer: Answer, transfers: Transfers) -> usize
+    ensures { λ r. ⌜ (now (out .exit) ≡ splice (now (out .entry)) at (lineIn (now (out .entry)) at k (says answer) transfers)) × (r ≡ at + length (lineIn (now (out .entry)) at k (says answer) transfers)) ⌝ }
 {
     if out.len() < MOST {
         return at;
@@ -150,5 +185,5 @@ pub fn put_line(out: &mut [u8], at: usize, k: u64, answer: Answer) -> usize
     if out.len() - MOST < at {
         return at;
     }
-    put_room(out, at, k, answer)
+    put_room(out, at, k, answer, transfers)
 }

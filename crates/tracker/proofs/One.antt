@@ -4,9 +4,11 @@ use mathlib.Core.Bool.{Bool}
 use Prim.Native.Nat.{ℕ}
 use Rattle.tracker.specs.declared.Phase.{Phase}
 use Rattle.tracker.specs.declared.Access.{Access}
+use Rattle.tracker.specs.declared.Transfers.{Transfers}
 use Rattle.tracker.specs.declared.Tracker.{Tracker}
 use Rattle.tracker.specs.declared.Answer.{Answer}
 use Rattle.tracker.specs.declared.Answer.the-variants.{Accepted, Wait, Moved, Read, Done, Same, No}
+use Rattle.tracker.specs.Transfers.{none, plus}
 use Rattle.tracker.specs.Tracker.{idle, isIdle, readOf, writeOf, issued, tick, goesTo, counted}
 use Rattle.tracker.specs.Answer.{Said, ok, wait, moved, read, done, same, no, says}
 
@@ -48,8 +50,14 @@ write-of-one bottom g v p q = p ∙ sym q
 pub begin-one : (a : Access) {r s : Tracker} → r ≡ issued a → s ≡ issued a → r ≡ s
 begin-one a p q = p ∙ sym q
 
-pub go-to-one : (t : Tracker) (phase : Phase) {r s : Tracker} → r ≡ goesTo t phase → s ≡ goesTo t phase → r ≡ s
-go-to-one t phase p q = p ∙ sym q
+pub none-one : {r s : Transfers} → r ≡ none → s ≡ none → r ≡ s
+none-one p q = p ∙ sym q
+
+pub plus-one : (a b : Transfers) {r s : Transfers} → r ≡ plus a b → s ≡ plus a b → r ≡ s
+plus-one a b p q = p ∙ sym q
+
+pub go-to-one : (t : Tracker) (phase : Phase) (more : Transfers) {r s : Tracker} → r ≡ goesTo t phase more → s ≡ goesTo t phase more → r ≡ s
+go-to-one t phase more p q = p ∙ sym q
 
 pub count-one : (t : Tracker) {r s : Tracker} → r ≡ counted t → s ≡ counted t → r ≡ s
 count-one t p q = p ∙ sym q

@@ -5,11 +5,13 @@ use Rattle.laws.specs.Choice.{pick}
 use Rattle.tracker.specs.declared.Phase.{Phase}
 use Rattle.tracker.specs.declared.Phase.the-variants.{Idle, Probe, Map, Leaf, Set, Clear}
 use Rattle.tracker.specs.declared.Access.{Access}
+use Rattle.tracker.specs.declared.Transfers.{Transfers}
 use Rattle.tracker.specs.declared.Tracker.{Tracker}
+use Rattle.tracker.specs.Transfers.{none, plus}
 
 -- "every tracker idle, and their other fields zero"
 abbrev pub idle : Tracker
-idle = record { phase = Idle; write = false; bottom = false; group = 0; value = 0; turns = 0 }
+idle = record { phase = Idle; write = false; bottom = false; group = 0; value = 0; turns = 0; transfers = none }
 
 -- what a tracker is at each phase: at rest; holding its map block ("Leaf or Finish"); at Finish, its moment behind it
 pub record Standing : Type 0 where
@@ -55,7 +57,7 @@ writeOf bottom g v = record { write = true; bottom = bottom; group = g; value = 
 -- a tracker whose access was just issued
 abbrev pub issued : Access → Tracker
 issued a =
-    record { phase = firstPhase (a .bottom); write = a .write; bottom = a .bottom; group = a .group; value = pick (a .write) (a .value) 0; turns = 0 }
+    record { phase = firstPhase (a .bottom); write = a .write; bottom = a .bottom; group = a .group; value = pick (a .write) (a .value) 0; turns = 0; transfers = none }
 
 -- "its turns: steps given since the issue, waits included; it stays at 65,535 once there"
 abbrev pub mostTurns : ℕ
@@ -64,10 +66,14 @@ mostTurns = 65535
 abbrev pub tick : ℕ → ℕ
 tick k = min (suc k) mostTurns
 
--- the tracker on its way to a phase
-abbrev pub goesTo : Tracker → Phase → Tracker
-goesTo t p = record { phase = p; write = t .write; bottom = t .bottom; group = t .group; value = t .value; turns = tick (t .turns) }
+-- the tracker at a phase, one turn more, with its transfers
+abbrev pub at : Tracker → Phase → Transfers → Tracker
+at t p m = record { phase = p; write = t .write; bottom = t .bottom; group = t .group; value = t .value; turns = tick (t .turns); transfers = m }
+
+-- the tracker on its way to a phase; 02 E4: "the tracker adds them up", the transfers of its step
+abbrev pub goesTo : Tracker → Phase → (more : Transfers) → Tracker
+goesTo t p more = at t p (plus (t .transfers) more)
 
 -- "wait, nothing changes but the turn count"
 abbrev pub counted : Tracker → Tracker
-counted t = goesTo t (t .phase)
+counted t = at t (t .phase) (t .transfers)

@@ -1,7 +1,9 @@
 // 01 "One step of a tracker": a tracker's phase and fields, and what a call answers.
 // Structs and enums by value; no public function has a `requires`.
 ghost use mathlib.Core.Path.{_≡_};
-ghost use Rattle.tracker.specs.Tracker.{idle, firstPhase, readOf, writeOf, issued, goesTo, counted, tick, isIdle};
+ghost use Prim.Native.Nat.{_+_, min};
+ghost use Rattle.tracker.specs.Tracker.{idle, firstPhase, readOf, writeOf, issued, at, goesTo, counted, tick, isIdle};
+ghost use Rattle.tracker.specs.Transfers.{none, mostTransfers, plus};
 ghost use Rattle.laws.specs.Choice.{pick};
 
 // Where a tracker stands. Finish is two: Set and Clear, by what it does to the bit.
@@ -22,7 +24,13 @@ pub struct Access {
     pub value: u32,
 }
 
-// One access under way; `bottom` stays after Probe. An idle tracker that ended has every field zero.
+// Blocks fetched from memory and blocks written back to it.
+pub struct Transfers {
+    pub fetched: u8,
+    pub back: u8,
+}
+
+// One access under way, with what its steps have transferred; `bottom` stays after Probe. An idle tracker that ended has every field zero.
 pub struct Tracker {
     pub phase: Phase,
     pub write: bool,
@@ -30,6 +38,7 @@ pub struct Tracker {
     pub group: u32,
     pub value: u32,
     pub turns: u16,
+    pub transfers: Transfers,
 }
 
 // What a call answers. `Read` carries the group and the turns, `Done` and `Same` the turns, `No` the refusal.
@@ -54,6 +63,42 @@ pub fn one_more(turns: u16) -> u16
         turns + 1
     } else {
         MOST_TURNS
+    }
+}
+
+// The most blocks fetched, or written back, that are counted.
+pub const MOST_TRANSFERS: u8 = 255;
+
+// So many more; it stays at the most once there.
+fn add(a: u8, k: u8) -> u8
+    ensures { λ r. ⌜ r ≡ min (a + k) mostTransfers ⌝ }
+{
+    if a < MOST_TRANSFERS - k {
+        a + k
+    } else {
+        MOST_TRANSFERS
+    }
+}
+
+impl Transfers {
+    // No transfer.
+    pub fn none() -> Transfers
+        ensures { λ r. ⌜ r ≡ none ⌝ }
+    {
+        Transfers {
+            fetched: 0,
+            back: 0,
+        }
+    }
+
+    // Those of both.
+    pub fn plus(self, more: Transfers) -> Transfers
+        ensures { λ r. ⌜ r ≡ plus self more ⌝ }
+    {
+        Transfers {
+            fetched: add(self.fetched, more.fetched),
+            back: add(self.back, more.back),
+        }
     }
 }
 
@@ -109,6 +154,7 @@ impl Tracker {
             group: 0,
             value: 0,
             turns: 0,
+            transfers: Transfers::none(),
         }
     }
 
@@ -123,12 +169,13 @@ impl Tracker {
             group: access.group,
             value: written(access.write, access.value),
             turns: 0,
+            transfers: Transfers::none(),
         }
     }
 
-    // The tracker at another phase, one turn more.
-    pub fn go_to(self, phase: Phase) -> Tracker
-        ensures { λ r. ⌜ r ≡ goesTo self phase ⌝ }
+    // The tracker at a phase, one turn more, with its transfers.
+    fn at(self, phase: Phase, transfers: Transfers) -> Tracker
+        ensures { λ r. ⌜ r ≡ at self phase transfers ⌝ }
     {
         Tracker {
             phase,
@@ -137,7 +184,16 @@ impl Tracker {
             group: self.group,
             value: self.value,
             turns: one_more(self.turns),
+            transfers,
         }
+    }
+
+    // The tracker at another phase, one turn and these transfers more.
+    pub fn go_to(self, phase: Phase, more: Transfers) -> Tracker
+        ensures { λ r. ⌜ r ≡ goesTo self phase more ⌝ }
+    {
+        let before = self.transfers;
+        self.at(phase, before.plus(more))
     }
 
     // The tracker where it is, one turn more.
@@ -145,7 +201,8 @@ impl Tracker {
         ensures { λ r. ⌜ r ≡ counted self ⌝ }
     {
         let phase = self.phase;
-        self.go_to(phase)
+        let transfers = self.transfers;
+        self.at(phase, transfers)
     }
 
     // The tracker has no access.

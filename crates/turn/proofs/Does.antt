@@ -15,16 +15,16 @@ use Rattle.laws.proofs.Choice.{true-or-false}
 use Rattle.laws.proofs.Splice.{lt-or-ge}
 use Rattle.geometry.specs.TagMemory.{mostTrackers}
 use Rattle.tracker.specs.declared.Access.{Access}
+use Rattle.tracker.specs.Transfers.{none}
 use Rattle.tracker.specs.Tracker.{issued}
 use Rattle.rules.specs.State.{State, Rows, trackerAt, lengthsRight}
 use Rattle.rules.specs.Whole.{whole}
-use Rattle.rules.specs.Place.{drained}
 use Rattle.rules.specs.Step.{Turned, refuses, turnOf}
 use Rattle.rules.specs.Calls.{refused, issueTests, issue, stepTests, step, drain, stepped, allIdle}
 use Rattle.rules.specs.Run.{does}
 use Rattle.rules.proofs.Calls.{Sound, rows-fit, refused-sound, step-is, step-refused, step-free, step-kept, issue-refused, issue-accepted, issue-free, issue-kept, drains as drains-all, drain-is, drain-busy, drain-kept}
 use Rattle.rules.proofs.Whole.{whole-facts, t-least, t-most}
-use Rattle.placing.specs.Lines.{rows, drainedRows}
+use Rattle.placing.specs.Lines.{rows, allDrained, drainedOn}
 use Rattle.turn.specs.declared.Asked.{Asked}
 use Rattle.turn.specs.declared.Asked.the-variants.{Other, Issue, Step, Drain}
 use Rattle.turn.specs.Turn.{takes, named, accepts, issueTurn, stepTurn, drainTurn, askedTurn}
@@ -68,8 +68,8 @@ module _ (s : State) (bytes memory : List ℕ) (w : whole s ≡ true) (len : len
   stays : (c x : ℕ) → refused c s bytes memory ≡ stepped s x (refuses c (trackerAt (s .trackers) x) (s .shape) lent)
   stays c x = rw set-getD
 
-  drained-fit : drainedRows (s .shape) lent ≡ drained (s .shape .l) lent
-  unfolding drainedRows
+  drained-fit : drainedOn (s .shape) lent ≡ allDrained (s .shape .l) lent
+  unfolding drainedOn
   drained-fit = rw (rows-fit s bytes memory w len)
 
   -- a call refused, and its turn
@@ -88,7 +88,7 @@ module _ (s : State) (bytes memory : List ℕ) (w : whole s ≡ true) (len : len
   issue-turn x access = ⊎-elim
       (λ e. let h = issue-free s bytes memory w len x access e in
       issue-accepted s bytes memory w len x access e
-      ∙ rw (own-is x (h .0), unless-0 (accepts (s .shape) (issued access) lent) (λ i. refuses i (trackerAt (s .trackers) x) (s .shape) lent) e) refl)
+      ∙ rw (own-is x (h .0), unless-0 (accepts (s .shape) (issued access) none lent) (λ i. refuses i (trackerAt (s .trackers) x) (s .shape) lent) e) refl)
       (λ h. issue-refused s bytes memory w len x access h ∙ refused-turn (own x) _ _ h) (refused-or-not (refusal (issueTests (s .shape) x access (s .trackers))))
 
   drain-turn : drain s bytes memory ≡ stepped s 0 (drainTurn (s .shape) (s .trackers) (trackerAt (s .trackers) 0) lent)

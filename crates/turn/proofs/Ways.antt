@@ -11,11 +11,12 @@ use Rattle.laws.proofs.Refusal.{refusal-hold, unless-0, unless-no}
 use Rattle.geometry.specs.declared.Shape.{Shape}
 use Rattle.tracker.specs.declared.Access.{Access}
 use Rattle.tracker.specs.declared.Tracker.{Tracker}
+use Rattle.tracker.specs.Transfers.{none}
 use Rattle.tracker.specs.Tracker.{isIdle, issued}
 use Rattle.rules.specs.State.{Rows, trackerAt}
 use Rattle.rules.specs.Step.{refuses, turnOf}
 use Rattle.rules.specs.Calls.{issueTests, stepTests, drainTests}
-use Rattle.placing.specs.Lines.{drainedRows}
+use Rattle.placing.specs.Lines.{drainedOn}
 use Rattle.turn.specs.declared.Asked.{Asked}
 use Rattle.turn.specs.declared.Asked.the-variants.{Other, Issue, Step, Drain}
 use Rattle.turn.specs.Turn.{named, accepts, issueTurn, stepTurn, drainTurn, askedTurn}
@@ -26,7 +27,7 @@ module _ (shape : Shape) (x : ℕ) (a : Access) (us : List Tracker) (u : Tracker
   unfolding issueTurn
   issue-no h = rw (← e) (unless-no _ _ h)
 
-  pub issue-ok : c ≡ 0 → issueTurn shape x a us u r ≡ accepts shape (issued a) r
+  pub issue-ok : c ≡ 0 → issueTurn shape x a us u r ≡ accepts shape (issued a) none r
   unfolding issueTurn
   issue-ok z = unless-0 _ _ (sym e ∙ z)
 
@@ -48,7 +49,7 @@ module _ (shape : Shape) (us : List Tracker) (u : Tracker) (r : Rows) (c : ℕ) 
   unfolding drainTurn
   drain-no h = rw (← e) (unless-no _ _ h)
 
-  pub drain-ok : c ≡ 0 → drainTurn shape us u r ≡ accepts shape u (drainedRows shape r)
+  pub drain-ok : c ≡ 0 → drainTurn shape us u r ≡ accepts shape u (drainedOn shape r .copies) (drainedOn shape r .rows)
   unfolding drainTurn
   drain-ok z = unless-0 _ _ (sym e ∙ z)
 

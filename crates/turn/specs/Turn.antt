@@ -7,14 +7,16 @@ use Rattle.laws.specs.Refusal.{refusal, unless}
 use Rattle.laws.specs.Scan.{all}
 use Rattle.geometry.specs.declared.Shape.{Shape}
 use Rattle.tracker.specs.declared.Access.{Access}
+use Rattle.tracker.specs.declared.Transfers.{Transfers}
 use Rattle.tracker.specs.declared.Tracker.{Tracker}
+use Rattle.tracker.specs.Transfers.{none}
 use Rattle.tracker.specs.Tracker.{isIdle, issued}
 use Rattle.tracker.specs.Answer.{ok}
 use Rattle.rules.specs.State.{Rows, trackerAt}
 use Rattle.rules.specs.Step.{Turned, refuses, turnOf}
 use Rattle.rules.specs.Calls.{Out, refused, issueTests, stepTests, drainTests}
 use Rattle.rules.specs.Run.{Kept, does, issues, steps, drains}
-use Rattle.placing.specs.Lines.{drainedRows}
+use Rattle.placing.specs.Lines.{drainedOn}
 use Rattle.turn.specs.declared.Asked.{Asked}
 use Rattle.turn.specs.declared.Asked.the-variants.{Other, Issue, Step, Drain}
 
@@ -33,13 +35,13 @@ named t (Step x) = pick (ltb x t) x 0
 named t Drain = 0
 
 -- a call that is accepted
-abbrev pub accepts : Shape → Tracker → Rows → Turned
-accepts shape u r = record { said = ok; shape = shape; tracker = u; rows = r }
+abbrev pub accepts : Shape → Tracker → Transfers → Rows → Turned
+accepts shape u m r = record { said = ok; shape = shape; tracker = u; rows = r; transfers = m }
 
 -- an issue to tracker x, among the trackers us; u is the one that is left
 unfoldable pub issueTurn : Shape → (x : ℕ) → Access → (us : List Tracker) (u : Tracker) → Rows → Turned
 issueTurn shape x a us u r =
-    unless (refusal (issueTests shape x a us)) (accepts shape (issued a) r) (λ c. refuses c u shape r)
+    unless (refusal (issueTests shape x a us)) (accepts shape (issued a) none r) (λ c. refuses c u shape r)
 
 -- a step of tracker x, which is u
 unfoldable pub stepTurn : Shape → (x : ℕ) (us : List Tracker) (u : Tracker) → Rows → Turned
@@ -47,7 +49,9 @@ stepTurn shape x us u r = unless (refusal (stepTests shape x us)) (turnOf shape 
 
 -- a drain
 unfoldable pub drainTurn : Shape → (us : List Tracker) (u : Tracker) → Rows → Turned
-drainTurn shape us u r = unless (refusal (drainTests (all (λ x. isIdle (trackerAt us x)) (shape .t)))) (accepts shape u (drainedRows shape r)) (λ c. refuses c u shape r)
+drainTurn shape us u r =
+    let d = drainedOn shape r in
+    unless (refusal (drainTests (all (λ x. isIdle (trackerAt us x)) (shape .t)))) (accepts shape u (d .copies) (d .rows)) (λ c. refuses c u shape r)
 
 unfoldable pub askedTurn : Shape → Asked → (us : List Tracker) (u : Tracker) → Rows → Turned
 askedTurn shape Other us u r = refuses 12 u shape r

@@ -6,6 +6,7 @@ use outcome::Turned;
 use tracker::Access;
 use tracker::Answer;
 use tracker::Tracker;
+use tracker::Transfers;
 ghost use mathlib.Core.Path.{_≡_};
 ghost use mathlib.Core.List.{List};
 ghost use Prim.Native.Nat.{ℕ};
@@ -43,6 +44,7 @@ fn issue(
         shape,
         tracker: Tracker::begin(access),
         answer: Answer::Accepted,
+        transfers: Transfers::none(),
     }
 }
 
@@ -65,7 +67,7 @@ fn one_step(
     step::turn(shape, x as u32, u, lines, bytes, memory)
 }
 
-// Drain: 7.
+// Drain, with the sums of its copies: 7.
 fn drain(
     shape: Shape,
     trackers: [Tracker; Geometry::MOST_TRACKERS],
@@ -80,11 +82,12 @@ fn drain(
     if 0 < c {
         return outcome::refuses(c, shape, u);
     }
-    placing::drain(shape, lines, bytes, memory);
+    let transfers = placing::drain(shape, lines, bytes, memory);
     Turned {
         shape,
         tracker: u,
         answer: Answer::Accepted,
+        transfers,
     }
 }
 

@@ -7,10 +7,14 @@ use Rattle.cache.proofs.shaped.Statement.{statement}
 use Rattle.cache.proofs.shaped.Tie as tie
 
 cast-start : tie.Need-cast-start
-cast-start c = let a = c .args in omega (arith, n-most (shapeOf (a .n) (a .t) (a .l)) (c .pre))
+cast-start c =
+    let a = c .args in
+    omega (arith, n-most (shapeOf (a .n) (a .t) (a .l)) (c .pre))
 
 cast-start-2 : tie.Need-cast-start-2
-cast-start-2 c = let a = c .args in omega (arith, t-most (shapeOf (a .n) (a .t) (a .l)) (c .pre))
+cast-start-2 c =
+    let a = c .args in
+    omega (arith, t-most (shapeOf (a .n) (a .t) (a .l)) (c .pre))
 
 start-requires : tie.Need-start-requires
 start-requires c κs = search needs

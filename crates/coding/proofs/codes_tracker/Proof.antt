@@ -71,9 +71,34 @@ both-requires-4 c κs = search needs
 both-requires-5 : tie.Need-both-requires-5
 both-requires-5 c κs = search needs
 
+add-both-6 : tie.Need-add-both-6
+add-both-6 c = search needs
+
+mul-both-7 : tie.Need-mul-both-7
+mul-both-7 c = search needs
+
+shared-slice-read-both-7 : tie.Need-shared-slice-read-both-7
+shared-slice-read-both-7 c = search needs
+
+add-both-7 : tie.Need-add-both-7
+add-both-7 c = search needs
+
+mul-both-8 : tie.Need-mul-both-8
+mul-both-8 c = search needs
+
+shared-slice-read-both-8 : tie.Need-shared-slice-read-both-8
+shared-slice-read-both-8 c = search needs
+
+both-requires-6 : tie.Need-both-requires-6
+both-requires-6 c κs = search needs
+
+both-requires-7 : tie.Need-both-requires-7
+both-requires-7 c κs = search needs
+
 returns : tie.Need-returns
 unfolding codesTracker
-returns c = rw (c .both5 .ensures, c .before .both4 .ensures, c .before .before .both3 .ensures, c .before .before .before .before .before .before .both2 .ensures, c .before .before .before .before .before .before .before .both .ensures) refl
+returns c = let at-six = c .before .before .before .before in let at-three = at-six .before .before .before .before .before .before in
+    rw (c .both7 .ensures, c .before .both6 .ensures, at-six .both5 .ensures, at-six .before .both4 .ensures, at-six .before .before .both3 .ensures, at-three .both2 .ensures, at-three .before .both .ensures) refl
 
 pub codes-tracker-spec : {M : Type 1} → statement M
 codes-tracker-spec =
@@ -101,4 +126,12 @@ codes-tracker-spec =
     both-requires-3
     both-requires-4
     both-requires-5
+    add-both-6
+    mul-both-7
+    shared-slice-read-both-7
+    add-both-7
+    mul-both-8
+    shared-slice-read-both-8
+    both-requires-6
+    both-requires-7
     returns)

@@ -9,7 +9,7 @@ number-of-requires : tie.Need-number-of-requires
 number-of-requires c κs = search needs
 
 returns : tie.Need-returns
-returns c = let a = c .before .before .before .args in answer-no (a .words .now) (a .answer) (c .before .number-of .ensures) (omega arith)
+returns c = let a = c .before .before .before .args in answer-no (a .words .now) (a .t) (a .answer) (c .before .number-of .ensures) (omega arith)
 
 put-said-requires : tie.Need-put-said-requires
 put-said-requires c κs = search needs
@@ -19,7 +19,7 @@ same-length c = search needs
 
 returns-2 : tie.Need-returns-2
 returns-2 c = let at-test = c .before .before .before .before in let a = at-test .before .before .before .args in
-    answer-is (a .words .now) (a .answer) (at-test .before .number-of .ensures) (omega arith) (c .before .before .put-said .ensures)
+    answer-is (a .words .now) (a .t) (a .answer) (at-test .before .number-of .ensures) (omega arith) (c .before .before .put-said .ensures)
 
 pub put-answer-spec : {M : Type 1} → statement M
 put-answer-spec =

@@ -5,7 +5,7 @@ use Rattle.coding.proofs.put_said.Statement.{statement}
 use Rattle.coding.proofs.put_said.Tie as tie
 
 returns : tie.Need-returns
-returns c = said-not (c .before .before .args .words .now) (c .before .before .args .answer) (c .if1 .taken)
+returns c = said-not (c .before .before .args .words .now) (c .before .before .args .t) (c .before .before .args .answer) (c .if1 .taken)
 
 enum-told : tie.Need-enum-told
 enum-told c = search needs
@@ -60,49 +60,49 @@ same-length c = search needs
 
 returns-2 : tie.Need-returns-2
 returns-2 c = let at-arm = c .before .before .before .before in let at-test = at-arm .before .before in
-    said-is (at-test .before .before .args .words .now) (at-test .if1 .left) (at-arm .enum-told .given .1) (c .before .before .put-words .ensures)
+    said-is (at-test .before .before .args .words .now) (at-test .before .before .args .t) (at-test .if1 .left) (at-arm .enum-told .given .1) (c .before .before .put-words .ensures)
 
 same-length-2 : tie.Need-same-length-2
 same-length-2 c = search needs
 
 returns-3 : tie.Need-returns-3
 returns-3 c = let at-arm = c .before .before .before .before in let at-test = at-arm .before .before in
-    said-is (at-test .before .before .args .words .now) (at-test .if1 .left) (at-arm .enum-told2 .given .1) (c .before .before .put-words2 .ensures)
+    said-is (at-test .before .before .args .words .now) (at-test .before .before .args .t) (at-test .if1 .left) (at-arm .enum-told2 .given .1) (c .before .before .put-words2 .ensures)
 
 same-length-3 : tie.Need-same-length-3
 same-length-3 c = search needs
 
 returns-4 : tie.Need-returns-4
 returns-4 c = let at-arm = c .before .before .before .before in let at-test = at-arm .before .before in
-    said-is (at-test .before .before .args .words .now) (at-test .if1 .left) (at-arm .enum-told3 .given .1) (c .before .before .put-words3 .ensures)
+    said-is (at-test .before .before .args .words .now) (at-test .before .before .args .t) (at-test .if1 .left) (at-arm .enum-told3 .given .1) (c .before .before .put-words3 .ensures)
 
 same-length-4 : tie.Need-same-length-4
 same-length-4 c = search needs
 
 returns-5 : tie.Need-returns-5
 returns-5 c = let at-arm = c .before .before .before .before .before in let at-test = at-arm .before .before in
-    said-is (at-test .before .before .args .words .now) (at-test .if1 .left) (at-arm .answer .given .1) (c .before .before .put-words4 .ensures)
+    said-is (at-test .before .before .args .words .now) (at-test .before .before .args .t) (at-test .if1 .left) (at-arm .answer .given .1) (c .before .before .put-words4 .ensures)
 
 same-length-5 : tie.Need-same-length-5
 same-length-5 c = search needs
 
 returns-6 : tie.Need-returns-6
 returns-6 c = let at-arm = c .before .before .before .before .before in let at-test = at-arm .before .before in
-    said-is (at-test .before .before .args .words .now) (at-test .if1 .left) (at-arm .answer2 .given .1) (c .before .before .put-words5 .ensures)
+    said-is (at-test .before .before .args .words .now) (at-test .before .before .args .t) (at-test .if1 .left) (at-arm .answer2 .given .1) (c .before .before .put-words5 .ensures)
 
 same-length-6 : tie.Need-same-length-6
 same-length-6 c = search needs
 
 returns-7 : tie.Need-returns-7
 returns-7 c = let at-arm = c .before .before .before .before .before in let at-test = at-arm .before .before in
-    said-is (at-test .before .before .args .words .now) (at-test .if1 .left) (at-arm .answer3 .given .1) (c .before .before .put-words6 .ensures)
+    said-is (at-test .before .before .args .words .now) (at-test .before .before .args .t) (at-test .if1 .left) (at-arm .answer3 .given .1) (c .before .before .put-words6 .ensures)
 
 same-length-7 : tie.Need-same-length-7
 same-length-7 c = search needs
 
 returns-8 : tie.Need-returns-8
 returns-8 c = let at-arm = c .before .before .before .before .before in let at-test = at-arm .before .before in
-    said-is (at-test .before .before .args .words .now) (at-test .if1 .left) (at-arm .answer4 .given .1) (c .before .before .put-words7 .ensures)
+    said-is (at-test .before .before .args .words .now) (at-test .before .before .args .t) (at-test .if1 .left) (at-arm .answer4 .given .1) (c .before .before .put-words7 .ensures)
 
 pub put-said-spec : {M : Type 1} → statement M
 put-said-spec =

@@ -1,9 +1,9 @@
--- `put_tracker` meets its contract: six stores.
+-- `put_tracker` meets its contract: eight stores.
 use borrow.Author.Needs.{needs}
 use lib.ListN.{length-set}
-use Rattle.coding.specs.Words.{trackerCoded}
-use Rattle.laws.proofs.Stores.{stores-6}
 use native.Mathlib.Omega.{arith}
+use Rattle.coding.specs.Words.{trackerCoded}
+use Rattle.laws.proofs.Stores.{stores-8}
 use Rattle.coding.proofs.put_tracker.Statement.{statement}
 use Rattle.coding.proofs.put_tracker.Tie as tie
 
@@ -76,12 +76,37 @@ mul-words-6 c = search needs
 slice-write-words-6 : tie.Need-slice-write-words-6
 slice-write-words-6 c = simp length-set (omega arith)
 
+cast-words-4 : tie.Need-cast-words-4
+cast-words-4 c = search needs
+
+add-words-6 : tie.Need-add-words-6
+add-words-6 c = search needs
+
+mul-words-7 : tie.Need-mul-words-7
+mul-words-7 c = search needs
+
+slice-write-words-7 : tie.Need-slice-write-words-7
+slice-write-words-7 c = simp length-set (omega arith)
+
+cast-words-5 : tie.Need-cast-words-5
+cast-words-5 c = search needs
+
+add-words-7 : tie.Need-add-words-7
+add-words-7 c = search needs
+
+mul-words-8 : tie.Need-mul-words-8
+mul-words-8 c = search needs
+
+slice-write-words-8 : tie.Need-slice-write-words-8
+slice-write-words-8 c = simp length-set (omega arith)
+
 same-length : tie.Need-same-length
-same-length c = search needs
+same-length c = simp length-set (omega arith)
 
 returns : tie.Need-returns
 unfolding trackerCoded
-returns c = let a = c .before .before .before .before .before .before .before .args in rw (c .before .before .before .before .before .phase-number .ensures, c .before .before .before .before .bit .ensures, c .before .before .before .bit2 .ensures) (stores-6 (a .words .now) (a .at) _ _ _ _ _ _ (c .before .before .before .before .before .before .before .pre))
+returns c = let at-phase = c .before .before .before .before .before .before .before .before in let at-entry = at-phase .before .before in let a = at-entry .args in
+    rw (at-phase .phase-number .ensures, c .before .before .before .before .before .before .before .bit .ensures, c .before .before .before .before .before .before .bit2 .ensures) (stores-8 (a .words .now) (a .at) _ _ _ _ _ _ _ _ (at-entry .pre))
 
 pub put-tracker-spec : {M : Type 1} → statement M
 put-tracker-spec =
@@ -110,5 +135,13 @@ put-tracker-spec =
     add-words-5
     mul-words-6
     slice-write-words-6
+    cast-words-4
+    add-words-6
+    mul-words-7
+    slice-write-words-7
+    cast-words-5
+    add-words-7
+    mul-words-8
+    slice-write-words-8
     same-length
     returns)

@@ -18,8 +18,14 @@ slice-write-words-2 c = search needs
 slice-write-words-3 : tie.Need-slice-write-words-3
 slice-write-words-3 c = search needs
 
+cast-words : tie.Need-cast-words
+cast-words c = search needs
+
 slice-write-words-4 : tie.Need-slice-write-words-4
-slice-write-words-4 c = search needs
+slice-write-words-4 c = simp length-set (omega arith)
+
+cast-words-2 : tie.Need-cast-words-2
+cast-words-2 c = search needs
 
 slice-write-words-5 : tie.Need-slice-write-words-5
 slice-write-words-5 c = simp length-set (omega arith)
@@ -31,7 +37,9 @@ same-length : tie.Need-same-length
 same-length c = search needs
 
 returns : tie.Need-returns
-returns c = splice-sets (c .args .said ∷ c .args .v ∷ c .args .k ∷ 0 ∷ 0 ∷ 0 ∷ []) (c .args .words .now) 0 (omega arith) ∙ splice-all (c .args .words .now) (c .args .said ∷ c .args .v ∷ c .args .k ∷ 0 ∷ 0 ∷ 0 ∷ []) (omega arith)
+returns c = let a = c .before .before .args in
+    let ws = a .said ∷ a .v ∷ a .k ∷ a .t .fetched ∷ a .t .back ∷ 0 ∷ [] in
+    splice-sets ws (a .words .now) 0 (omega arith) ∙ splice-all (a .words .now) ws (omega arith)
 
 pub put-words-spec : {M : Type 1} → statement M
 put-words-spec =
@@ -40,7 +48,9 @@ put-words-spec =
     slice-write-words
     slice-write-words-2
     slice-write-words-3
+    cast-words
     slice-write-words-4
+    cast-words-2
     slice-write-words-5
     slice-write-words-6
     same-length

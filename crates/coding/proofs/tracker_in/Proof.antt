@@ -1,9 +1,9 @@
 -- `tracker_in` meets its contract: each word is as narrow as its field.
 use borrow.Author.Needs.{needs}
 use mathlib.Core.Path.{refl}
+use native.Mathlib.Omega.{arith}
 use Rattle.coding.specs.Words.{trackerIn}
 use Rattle.coding.proofs.Turns.{narrow}
-use native.Mathlib.Omega.{arith}
 use Rattle.coding.proofs.tracker_in.Statement.{statement}
 use Rattle.coding.proofs.tracker_in.Tie as tie
 
@@ -44,7 +44,7 @@ shared-slice-read-t20 : tie.Need-shared-slice-read-t20
 shared-slice-read-t20 c = search needs
 
 cast-t21 : tie.Need-cast-t21
-cast-t21 c = omega (arith, narrow (c .before .before .before .before .before .before .args .words .now) (c .before .before .before .before .before .before .args .at) (c .before .before .before .before .before .before .pre .1) .group)
+cast-t21 c = let at-entry = c .before .before .before .before .before .before in let a = at-entry .args in omega (arith, narrow (a .words .now) (a .at) (at-entry .pre .1) .group)
 
 add-t22 : tie.Need-add-t22
 add-t22 c = search needs
@@ -56,7 +56,7 @@ shared-slice-read-t25 : tie.Need-shared-slice-read-t25
 shared-slice-read-t25 c = search needs
 
 cast-t26 : tie.Need-cast-t26
-cast-t26 c = omega (arith, narrow (c .before .before .before .before .before .before .before .args .words .now) (c .before .before .before .before .before .before .before .args .at) (c .before .before .before .before .before .before .before .pre .1) .value)
+cast-t26 c = let at-entry = c .before .before .before .before .before .before .before in let a = at-entry .args in omega (arith, narrow (a .words .now) (a .at) (at-entry .pre .1) .value)
 
 add-t27 : tie.Need-add-t27
 add-t27 c = search needs
@@ -68,11 +68,35 @@ shared-slice-read-t30 : tie.Need-shared-slice-read-t30
 shared-slice-read-t30 c = search needs
 
 cast-t31 : tie.Need-cast-t31
-cast-t31 c = omega (arith, narrow (c .before .before .before .before .before .before .before .before .args .words .now) (c .before .before .before .before .before .before .before .before .args .at) (c .before .before .before .before .before .before .before .before .pre .1) .turns)
+cast-t31 c = let at-entry = c .before .before .before .before .before .before .before .before in let a = at-entry .args in omega (arith, narrow (a .words .now) (a .at) (at-entry .pre .1) .turns)
+
+add-t32 : tie.Need-add-t32
+add-t32 c = search needs
+
+mul-t33 : tie.Need-mul-t33
+mul-t33 c = search needs
+
+shared-slice-read-t35 : tie.Need-shared-slice-read-t35
+shared-slice-read-t35 c = search needs
+
+cast-t36 : tie.Need-cast-t36
+cast-t36 c = let at-entry = c .before .before .before .before .before .before .before .before .before in let a = at-entry .args in omega (arith, narrow (a .words .now) (a .at) (at-entry .pre .1) .fetched)
+
+add-t37 : tie.Need-add-t37
+add-t37 c = search needs
+
+mul-t38 : tie.Need-mul-t38
+mul-t38 c = search needs
+
+shared-slice-read-t40 : tie.Need-shared-slice-read-t40
+shared-slice-read-t40 c = search needs
+
+cast-t41 : tie.Need-cast-t41
+cast-t41 c = let at-entry = c .before .before .before .before .before .before .before .before .before .before in let a = at-entry .args in omega (arith, narrow (a .words .now) (a .at) (at-entry .pre .1) .back)
 
 returns : tie.Need-returns
 unfolding trackerIn
-returns c = rw (c .before .before .before .before .before .phase-of .ensures) refl
+returns c = rw (c .before .before .before .before .before .before .before .phase-of .ensures) refl
 
 pub tracker-in-spec : {M : Type 1} → statement M
 tracker-in-spec =
@@ -99,4 +123,12 @@ tracker-in-spec =
     mul-t28
     shared-slice-read-t30
     cast-t31
+    add-t32
+    mul-t33
+    shared-slice-read-t35
+    cast-t36
+    add-t37
+    mul-t38
+    shared-slice-read-t40
+    cast-t41
     returns)

@@ -37,8 +37,12 @@ same-length-2 c = search needs
 
 returns : tie.Need-returns
 returns c =
-    let a = c .before .before .before .before .before .before .before .before .before .before .before .args in
-    λ m. by-rule (created (a .i) (a .shape) _ _ (a .t) (a .lines .now) (a .bytes .now) _ m _ (c .before .before .before .before .before .before .before .leaf-of .ensures) (c .before .before .before .before .before .before .word .ensures) (c .before .before .before .before .before .before .before .before .new-leaf .ensures) (c .before .before .before .write-block .ensures)) (c .goes .ensures _ _ m)
+    let at-write-block = c .before .before .before in
+    let at-word = at-write-block .before .before .before in
+    let at-leaf-of = at-word .before in
+    let at-new-leaf = at-leaf-of .before in
+    let a = at-new-leaf .before .before .before .args in
+    λ m. by-rule (created (a .spot .line) (a .spot .shape) (a .spot .copies) _ _ (a .t) (a .lines .now) (a .bytes .now) _ m _ (at-leaf-of .leaf-of .ensures) (at-word .word .ensures) (at-new-leaf .new-leaf .ensures) (at-write-block .write-block .ensures)) (c .goes .ensures _ _ m)
 
 pub create-spec : {M : Type 1} → statement M
 create-spec = tie.close (tie.spec new-leaf-requires leaf-of-requires word-requires mul-lines slice-write-lines mul-write-block write-block-requires goes-requires same-length same-length-2 returns)

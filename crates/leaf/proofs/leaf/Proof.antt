@@ -12,6 +12,10 @@ use Rattle.leaf.proofs.Ways.{in-line, in-lines, in-bytes, leafOn-misfit
 use Rattle.leaf.proofs.leaf.Statement.{statement}
 use Rattle.leaf.proofs.leaf.Tie as tie
 
+-- the places that are spoken of, each from the one after it
+abbrev before-in-rows : tie.After-in-rows → tie.Start
+before-in-rows c = c .before .before .before .before .before .before
+
 in-rows-requires : tie.Need-in-rows-requires
 in-rows-requires c κs = search needs
 
@@ -25,12 +29,16 @@ same-length-2 : tie.Need-same-length-2
 same-length-2 c = search needs
 
 returns : tie.Need-returns
-returns c = by-rule (leafOn-misfit _ _ _ _ _ (sym (c .before .before .in-rows .ensures) ∙ not-true _ (c .before .if1 .taken))) (c .refuses .ensures _ _ _)
+returns c =
+    let at-in-rows = c .before .before in
+    by-rule (leafOn-misfit _ _ _ _ _ (sym (at-in-rows .in-rows .ensures) ∙ not-true _ (c .before .if1 .taken))) (c .refuses .ensures _ _ _)
 
 leaf-read-requires : tie.Need-leaf-read-requires
 leaf-read-requires c κs =
-    let a = c .before .before .before .before .before .before .before .before .before .before .before .before .args in
-    let f : both (ltb (a .j) (a .shape .l)) (rowsFit (a .shape .l) (a .lines .now) (a .bytes .now)) ≡ true = sym (c .before .before .before .before .before .before .in-rows .ensures) ∙ not-false _ (c .before .before .before .before .before .if1 .left) in
+    let at-if1 = c .before .before .before .before .before in
+    let at-in-rows = at-if1 .before in
+    let a = before-in-rows at-in-rows .args in
+    let f : both (ltb (a .j) (a .shape .l)) (rowsFit (a .shape .l) (a .lines .now) (a .bytes .now)) ≡ true = sym (at-in-rows .in-rows .ensures) ∙ not-false _ (at-if1 .if1 .left) in
     (in-line _ _ _ _ f, in-lines _ _ _ _ f, in-bytes _ _ _ _ f)
 
 same-length-3 : tie.Need-same-length-3
@@ -43,12 +51,19 @@ same-length-5 : tie.Need-same-length-5
 same-length-5 c = search needs
 
 returns-2 : tie.Need-returns-2
-returns-2 c = by-rule (leafOn-read _ _ _ _ _ (sym (c .before .before .before .before .before .before .before .before .before .before .before .before .before .in-rows .ensures) ∙ not-false _ (c .before .before .before .before .before .before .before .before .before .before .before .before .if1 .left)) (not-true _ (c .before .before .before .before .before .before .before .before .before .before .if2 .taken))) (c .before .before .before .before .before .before .leaf-read .ensures)
+returns-2 c =
+    let at-leaf-read = c .before .before .before .before .before .before in
+    let at-if2 = at-leaf-read .before .before .before .before in
+    let at-if1 = at-if2 .before .before in
+    let at-in-rows = at-if1 .before in
+    by-rule (leafOn-read _ _ _ _ _ (sym (at-in-rows .in-rows .ensures) ∙ not-false _ (at-if1 .if1 .left)) (not-true _ (at-if2 .if2 .taken))) (at-leaf-read .leaf-read .ensures)
 
 write-under-0-requires : tie.Need-write-under-0-requires
 write-under-0-requires c κs =
-    let a = c .before .before .before .before .before .before .before .before .before .before .before .before .before .args in
-    let f : both (ltb (a .j) (a .shape .l)) (rowsFit (a .shape .l) (a .lines .now) (a .bytes .now)) ≡ true = sym (c .before .before .before .before .before .before .before .in-rows .ensures) ∙ not-false _ (c .before .before .before .before .before .before .if1 .left) in
+    let at-if1 = c .before .before .before .before .before .before in
+    let at-in-rows = at-if1 .before in
+    let a = before-in-rows at-in-rows .args in
+    let f : both (ltb (a .j) (a .shape .l)) (rowsFit (a .shape .l) (a .lines .now) (a .bytes .now)) ≡ true = sym (at-in-rows .in-rows .ensures) ∙ not-false _ (at-if1 .if1 .left) in
     (in-line _ _ _ _ f, in-lines _ _ _ _ f, in-bytes _ _ _ _ f)
 
 same-length-6 : tie.Need-same-length-6
@@ -61,12 +76,19 @@ same-length-8 : tie.Need-same-length-8
 same-length-8 c = search needs
 
 returns-3 : tie.Need-returns-3
-returns-3 c = by-rule (leafOn-0 _ _ _ _ _ (sym (c .before .before .before .before .before .before .before .before .before .before .before .before .before .before .in-rows .ensures) ∙ not-false _ (c .before .before .before .before .before .before .before .before .before .before .before .before .before .if1 .left)) (not-false _ (c .before .before .before .before .before .before .before .before .before .before .before .if2 .left)) (omega arith)) (c .before .before .before .before .before .before .write-under-0 .ensures)
+returns-3 c =
+    let at-write-under-0 = c .before .before .before .before .before .before in
+    let at-if2 = at-write-under-0 .before .before .before .before .before in
+    let at-if1 = at-if2 .before .before in
+    let at-in-rows = at-if1 .before in
+    by-rule (leafOn-0 _ _ _ _ _ (sym (at-in-rows .in-rows .ensures) ∙ not-false _ (at-if1 .if1 .left)) (not-false _ (at-if2 .if2 .left)) (omega arith)) (at-write-under-0 .write-under-0 .ensures)
 
 write-under-1-requires : tie.Need-write-under-1-requires
 write-under-1-requires c κs =
-    let a = c .before .before .before .before .before .before .before .before .before .before .before .before .before .args in
-    let f : both (ltb (a .j) (a .shape .l)) (rowsFit (a .shape .l) (a .lines .now) (a .bytes .now)) ≡ true = sym (c .before .before .before .before .before .before .before .in-rows .ensures) ∙ not-false _ (c .before .before .before .before .before .before .if1 .left) in
+    let at-if1 = c .before .before .before .before .before .before in
+    let at-in-rows = at-if1 .before in
+    let a = before-in-rows at-in-rows .args in
+    let f : both (ltb (a .j) (a .shape .l)) (rowsFit (a .shape .l) (a .lines .now) (a .bytes .now)) ≡ true = sym (at-in-rows .in-rows .ensures) ∙ not-false _ (at-if1 .if1 .left) in
     (in-line _ _ _ _ f, in-lines _ _ _ _ f, in-bytes _ _ _ _ f)
 
 same-length-9 : tie.Need-same-length-9
@@ -79,7 +101,12 @@ same-length-11 : tie.Need-same-length-11
 same-length-11 c = search needs
 
 returns-4 : tie.Need-returns-4
-returns-4 c = by-rule (leafOn-1 _ _ _ _ _ (sym (c .before .before .before .before .before .before .before .before .before .before .before .before .before .before .in-rows .ensures) ∙ not-false _ (c .before .before .before .before .before .before .before .before .before .before .before .before .before .if1 .left)) (not-false _ (c .before .before .before .before .before .before .before .before .before .before .before .if2 .left)) (omega arith)) (c .before .before .before .before .before .before .write-under-1 .ensures)
+returns-4 c =
+    let at-write-under-1 = c .before .before .before .before .before .before in
+    let at-if2 = at-write-under-1 .before .before .before .before .before in
+    let at-if1 = at-if2 .before .before in
+    let at-in-rows = at-if1 .before in
+    by-rule (leafOn-1 _ _ _ _ _ (sym (at-in-rows .in-rows .ensures) ∙ not-false _ (at-if1 .if1 .left)) (not-false _ (at-if2 .if2 .left)) (omega arith)) (at-write-under-1 .write-under-1 .ensures)
 
 pub leaf-spec : {M : Type 1} → statement M
 leaf-spec = tie.close (tie.spec in-rows-requires refuses-requires same-length same-length-2 returns leaf-read-requires same-length-3 same-length-4 same-length-5 returns-2 write-under-0-requires same-length-6 same-length-7 same-length-8 returns-3 write-under-1-requires same-length-9 same-length-10 same-length-11 returns-4)

@@ -25,7 +25,10 @@ same-length-3 : tie.Need-same-length-3
 same-length-3 c = search needs
 
 returns : tie.Need-returns
-returns c = by-rule (leafRead-none _ _ _ _ _ _ _ (c .before .before .before .before .before .before .before .before .before .before .before .before .leaf-of .ensures) _ _ _ _ _ (c .before .before .before .before .before .before .before .before .bring-in .ensures) (omega arith)) (c .refuses .ensures _ _ _)
+returns c =
+    let at-bring-in = c .before .before .before .before .before .before .before .before in
+    let at-leaf-of = at-bring-in .before .before .before .before in
+    by-rule (leafRead-none _ _ _ _ _ _ _ (at-leaf-of .leaf-of .ensures) _ _ _ _ _ _ (at-bring-in .bring-in .ensures) (omega arith)) (c .refuses .ensures _ _ _)
 
 group-in-requires : tie.Need-group-in-requires
 group-in-requires c κs = search needs
@@ -47,7 +50,11 @@ same-length-6 c = search needs
 
 returns-2 : tie.Need-returns-2
 returns-2 c =
-    by-rule (leafRead-ends _ _ _ _ _ _ _ (c .before .before .before .before .before .before .before .before .before .before .before .before .before .before .before .before .before .before .leaf-of .ensures) _ _ _ _ _ (c .before .before .before .before .before .before .before .before .before .before .before .before .before .before .bring-in .ensures) _ _ (omega arith) (c .before .before .before .before .before .group-in .ensures) (c .before .before .before .let-go .ensures))
+    let at-let-go = c .before .before .before in
+    let at-group-in = at-let-go .before .before in
+    let at-bring-in = at-group-in .before .before .before .before .before .before .before .before .before in
+    let at-leaf-of = at-bring-in .before .before .before .before in
+    by-rule (leafRead-ends _ _ _ _ _ _ _ (at-leaf-of .leaf-of .ensures) _ _ _ _ _ _ (at-bring-in .bring-in .ensures) _ _ (omega arith) (at-group-in .group-in .ensures) (at-let-go .let-go .ensures))
     (c .ends-read .ensures _ _ _)
 
 pub leaf-read-spec : {M : Type 1} → statement M

@@ -14,7 +14,9 @@ held-by-requires : tie.Need-held-by-requires
 held-by-requires c κs = search needs
 
 returns : tie.Need-returns
-returns c = rw (c .before .before .if1 .taken, c .word .ensures, c .before .block-of .ensures) refl
+returns c =
+    let at-if1 = c .before .before in
+    rw (at-if1 .if1 .taken, c .word .ensures, c .before .block-of .ensures) refl
 
 returns-2 : tie.Need-returns-2
 returns-2 c = rw (c .before .if1 .left, c .held-by .ensures) refl

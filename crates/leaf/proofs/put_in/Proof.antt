@@ -52,7 +52,11 @@ same-length-2 : tie.Need-same-length-2
 same-length-2 c = search needs
 
 returns : tie.Need-returns
-returns c = λ m. by-rule (putIn-clear _ _ _ _ _ _ _ _ m (c .before .before .before .before .before .before .before .before .byte-of .ensures) (c .before .before .before .before .before .before .before .put-group .ensures) _ (c .before .before .all-zero .ensures) (c .before .if1 .taken)) (c .goes .ensures _ _ m)
+returns c =
+    let at-all-zero = c .before .before in
+    let at-put-group = at-all-zero .before .before .before .before .before in
+    let at-byte-of = at-put-group .before in
+    λ m. by-rule (putIn-clear _ _ _ _ _ _ _ _ _ m (at-byte-of .byte-of .ensures) (at-put-group .put-group .ensures) _ (at-all-zero .all-zero .ensures) (c .before .if1 .taken)) (c .goes .ensures _ _ m)
 
 leaf-of-requires : tie.Need-leaf-of-requires
 leaf-of-requires c κs = search needs
@@ -73,14 +77,23 @@ ends-done-requires : tie.Need-ends-done-requires
 ends-done-requires c κs = search needs
 
 same-length-3 : tie.Need-same-length-3
-same-length-3 c = c .before .before .before .let-go .kept .0 ∙ simp length-set
+same-length-3 c =
+    let at-let-go = c .before .before .before in
+    at-let-go .let-go .kept .0 ∙ simp length-set
 
 same-length-4 : tie.Need-same-length-4
 same-length-4 c = search needs
 
 returns-2 : tie.Need-returns-2
 returns-2 c =
-    λ m. by-rule (putIn-done _ _ _ _ _ _ _ _ m (c .before .before .before .before .before .before .before .before .before .before .before .before .before .before .byte-of .ensures) (c .before .before .before .before .before .before .before .before .before .before .before .before .before .put-group .ensures) _ (c .before .before .before .before .before .before .before .before .all-zero .ensures) _ _ _ (c .before .before .before .before .before .before .before .if1 .left) (c .before .before .before .before .before .before .leaf-of .ensures) (c .before .before .before .before .before .word .ensures) (c .before .before .before .let-go .ensures))
+    let at-let-go = c .before .before .before in
+    let at-word = at-let-go .before .before in
+    let at-leaf-of = at-word .before in
+    let at-if1 = at-leaf-of .before in
+    let at-all-zero = at-if1 .before in
+    let at-put-group = at-all-zero .before .before .before .before .before in
+    let at-byte-of = at-put-group .before in
+    λ m. by-rule (putIn-done _ _ _ _ _ _ _ _ _ m (at-byte-of .byte-of .ensures) (at-put-group .put-group .ensures) _ (at-all-zero .all-zero .ensures) _ _ _ (at-if1 .if1 .left) (at-leaf-of .leaf-of .ensures) (at-word .word .ensures) (at-let-go .let-go .ensures))
     (c .ends-done .ensures _ _ m)
 
 pub put-in-spec : {M : Type 1} → statement M

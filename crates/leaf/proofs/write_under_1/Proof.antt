@@ -6,6 +6,10 @@ use Rattle.leaf.proofs.Ways.{writeUnder1-none, writeUnder1-same, writeU
 use Rattle.leaf.proofs.write_under_1.Statement.{statement}
 use Rattle.leaf.proofs.write_under_1.Tie as tie
 
+-- the places that are spoken of, each from the one after it
+abbrev before-bring-in : tie.After-bring-in → tie.After-leaf-of
+before-bring-in c = c .before .before .before .before
+
 leaf-of-requires : tie.Need-leaf-of-requires
 leaf-of-requires c κs = search needs
 
@@ -25,7 +29,10 @@ same-length-3 : tie.Need-same-length-3
 same-length-3 c = search needs
 
 returns : tie.Need-returns
-returns c = by-rule (writeUnder1-none _ _ _ _ _ _ _ (c .before .before .before .before .before .before .before .before .before .before .before .before .leaf-of .ensures) _ _ _ _ _ (c .before .before .before .before .before .before .before .before .bring-in .ensures) (omega arith)) (c .refuses .ensures _ _ _)
+returns c =
+    let at-bring-in = c .before .before .before .before .before .before .before .before in
+    let at-leaf-of = before-bring-in at-bring-in in
+    by-rule (writeUnder1-none _ _ _ _ _ _ _ (at-leaf-of .leaf-of .ensures) _ _ _ _ _ _ (at-bring-in .bring-in .ensures) (omega arith)) (c .refuses .ensures _ _ _)
 
 group-in-requires : tie.Need-group-in-requires
 group-in-requires c κs = search needs
@@ -47,7 +54,11 @@ same-length-6 c = search needs
 
 returns-2 : tie.Need-returns-2
 returns-2 c =
-    by-rule (writeUnder1-same _ _ _ _ _ _ _ (c .before .before .before .before .before .before .before .before .before .before .before .before .before .before .before .before .before .before .before .before .leaf-of .ensures) _ _ _ _ _ (c .before .before .before .before .before .before .before .before .before .before .before .before .before .before .before .before .bring-in .ensures) _ (omega arith) (c .before .before .before .before .before .before .before .group-in .ensures) _ (omega arith) (c .before .before .before .let-go .ensures))
+    let at-let-go = c .before .before .before in
+    let at-group-in = at-let-go .before .before .before .before in
+    let at-bring-in = at-group-in .before .before .before .before .before .before .before .before .before in
+    let at-leaf-of = before-bring-in at-bring-in in
+    by-rule (writeUnder1-same _ _ _ _ _ _ _ (at-leaf-of .leaf-of .ensures) _ _ _ _ _ _ (at-bring-in .bring-in .ensures) _ (omega arith) (at-group-in .group-in .ensures) _ (omega arith) (at-let-go .let-go .ensures))
     (c .ends-same .ensures _ _ _)
 
 put-in-requires : tie.Need-put-in-requires
@@ -64,8 +75,12 @@ same-length-9 c = search needs
 
 returns-3 : tie.Need-returns-3
 returns-3 c =
-    by-rule (writeUnder1-put _ _ _ _ _ _ _ (c .before .before .before .before .before .before .before .before .before .before .before .before .before .before .before .before .before .before .before .before .before .before .leaf-of .ensures) _ _ _ _ _ (c .before .before .before .before .before .before .before .before .before .before .before .before .before .before .before .before .before .before .bring-in .ensures) _ (omega arith) (c .before .before .before .before .before .before .before .before .before .group-in .ensures) (omega arith))
-    (c .before .before .before .before .put-in .ensures _)
+    let at-put-in = c .before .before .before .before in
+    let at-group-in = at-put-in .before .before .before .before .before in
+    let at-bring-in = at-group-in .before .before .before .before .before .before .before .before .before in
+    let at-leaf-of = before-bring-in at-bring-in in
+    by-rule (writeUnder1-put _ _ _ _ _ _ _ (at-leaf-of .leaf-of .ensures) _ _ _ _ _ _ (at-bring-in .bring-in .ensures) _ (omega arith) (at-group-in .group-in .ensures) (omega arith))
+    (at-put-in .put-in .ensures _)
 
 pub write-under-1-spec : {M : Type 1} → statement M
 write-under-1-spec = tie.close (tie.spec leaf-of-requires bring-in-requires refuses-requires same-length same-length-2 same-length-3 returns group-in-requires let-go-requires ends-same-requires same-length-4 same-length-5 same-length-6 returns-2 put-in-requires same-length-7 same-length-8 same-length-9 returns-3)

@@ -1,4 +1,4 @@
--- `ends` meets its contract: the tracker is at rest, on any rows.
+-- `ends` meets its contract: the tracker is at rest, the transfers are what `plus` gives, on any rows.
 use borrow.Author.Needs.{needs}
 use mathlib.Core.Path.{refl}
 use Rattle.outcome.proofs.ends.Statement.{statement}
@@ -7,8 +7,11 @@ use Rattle.outcome.proofs.ends.Tie as tie
 rest-requires : tie.Need-rest-requires
 rest-requires c κs = search needs
 
+plus-requires : tie.Need-plus-requires
+plus-requires c κs = search needs
+
 returns : tie.Need-returns
-returns c = λ ls bs m. rw (c .rest .ensures) refl
+returns c = λ ls bs m. rw (c .before .rest .ensures, c .plus .ensures) refl
 
 pub ends-spec : {M : Type 1} → statement M
-ends-spec = tie.close (tie.spec rest-requires returns)
+ends-spec = tie.close (tie.spec rest-requires plus-requires returns)

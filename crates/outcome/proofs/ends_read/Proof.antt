@@ -12,7 +12,9 @@ ends-requires : tie.Need-ends-requires
 ends-requires c κs = search needs
 
 returns : tie.Need-returns
-returns c = λ ls bs m. by-rule (ends-turns (read (c .before .before .args .v)) _ _ (c .before .one-more .ensures)) (c .ends .ensures ls bs m)
+returns c =
+    let a = c .before .before .args in
+    λ ls bs m. by-rule (ends-turns (read (a .v)) _ (a .t) (a .more) _ (c .before .one-more .ensures)) (c .ends .ensures ls bs m)
 
 pub ends-read-spec : {M : Type 1} → statement M
 ends-read-spec = tie.close (tie.spec one-more-requires ends-requires returns)

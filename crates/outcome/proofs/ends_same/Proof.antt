@@ -12,7 +12,9 @@ ends-requires : tie.Need-ends-requires
 ends-requires c κs = search needs
 
 returns : tie.Need-returns
-returns c = λ ls bs m. by-rule (ends-turns same _ _ (c .before .one-more .ensures)) (c .ends .ensures ls bs m)
+returns c =
+    let a = c .before .before .args in
+    λ ls bs m. by-rule (ends-turns same _ (a .t) (a .more) _ (c .before .one-more .ensures)) (c .ends .ensures ls bs m)
 
 pub ends-same-spec : {M : Type 1} → statement M
 ends-same-spec = tie.close (tie.spec one-more-requires ends-requires returns)

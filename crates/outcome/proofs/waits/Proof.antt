@@ -7,8 +7,11 @@ use Rattle.outcome.proofs.waits.Tie as tie
 count-requires : tie.Need-count-requires
 count-requires c κs = search needs
 
+none-requires : tie.Need-none-requires
+none-requires c κs = search needs
+
 returns : tie.Need-returns
-returns c = λ ls bs m. rw (c .count .ensures) refl
+returns c = λ ls bs m. rw (c .before .count .ensures, c .none .ensures) refl
 
 pub waits-spec : {M : Type 1} → statement M
-waits-spec = tie.close (tie.spec count-requires returns)
+waits-spec = tie.close (tie.spec count-requires none-requires returns)

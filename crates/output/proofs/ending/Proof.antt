@@ -12,20 +12,34 @@ enum-known-n c = search needs
 rest-requires : tie.Need-rest-requires
 rest-requires c κs = search needs
 
-both-requires : tie.Need-both-requires
-both-requires c κs = search needs
+ending-with-requires : tie.Need-ending-with-requires
+ending-with-requires c κs = search needs
 
 returns : tie.Need-returns
-returns c = ending-is _ _ _ _ _ _ (c .before .before .rest .ensures) (c .before .both .ensures) (c .if1 .taken) ∙ ap (endingOf _ _) (sym (c .before .before .before .before .n .given .1))
+returns c =
+    let at-test = c .before .before in
+    let told = at-test .before .before in
+    c .ending-with .ensures ∙ (ending-is _ _ _ _ _ (c .before .rest .ensures) (at-test .if1 .taken) ∙ ap (endingOf _ _) (sym (told .n .given .1)))
 
 enum-told : tie.Need-enum-told
 enum-told c = search needs
 
 returns-2 : tie.Need-returns-2
-returns-2 c = ending-not _ _ _ _ _ _ (c .before .before .rest .ensures) (c .before .both .ensures) (c .if1 .left) ∙ ap (endingOf _ _) (sym (c .before .before .before .before .n .given .1))
+returns-2 c =
+    let told = c .before .before in
+    ending-not _ _ _ _ (c .if1 .left) ∙ ap (endingOf _ _) (sym (told .n .given .1))
 
 returns-3 : tie.Need-returns-3
 returns-3 c = ending-none _ _ ∙ ap (endingOf _ _) (sym (c .enum-told .given .1))
 
 pub ending-spec : {M : Type 1} → statement M
-ending-spec = tie.close (tie.spec enum-known-n rest-requires both-requires returns enum-told returns-2 returns-3)
+ending-spec =
+    tie.close
+    (tie.spec
+    enum-known-n
+    rest-requires
+    ending-with-requires
+    returns
+    enum-told
+    returns-2
+    returns-3)

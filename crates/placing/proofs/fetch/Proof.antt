@@ -5,8 +5,15 @@ use Rattle.placing.proofs.Ways.{line-is, placed-lines, placed-bytes, fe
 use Rattle.placing.proofs.fetch.Statement.{statement}
 use Rattle.placing.proofs.fetch.Tie as tie
 
+-- the places that are spoken of, each from the one after it
+abbrev before-block-place : tie.After-block-place → tie.After-place
+before-block-place c = c .before .before .before .before .before
+
 place-requires : tie.Need-place-requires
 place-requires c κs = search needs
+
+none-requires : tie.Need-none-requires
+none-requires c κs = search needs
 
 same-length : tie.Need-same-length
 same-length c = search needs
@@ -18,7 +25,9 @@ same-length-3 : tie.Need-same-length-3
 same-length-3 c = search needs
 
 returns : tie.Need-returns
-returns c = fetched-none _ _ _ _ _ _ _ _ (c .before .before .before .place .ensures) (omega arith)
+returns c =
+    let at-place = c .before .before .before .before in
+    fetched-none _ _ _ _ _ _ _ _ (at-place .place .ensures) (omega arith) (c .none .ensures)
 
 block-place-requires : tie.Need-block-place-requires
 block-place-requires c κs = search needs
@@ -30,16 +39,26 @@ word-requires : tie.Need-word-requires
 word-requires c κs = search needs
 
 mul-lines : tie.Need-mul-lines
-mul-lines c = omega (arith, placed-lines _ _ _ _ (line-is (c .before .before .before .before .before .before .before .place .ensures)) (omega arith))
+mul-lines c =
+    let at-place = before-block-place (c .before .before) in
+    omega (arith, placed-lines _ _ _ _ (line-is (at-place .place .ensures)) (omega arith))
 
 slice-write-lines : tie.Need-slice-write-lines
-slice-write-lines c = omega (arith, placed-lines _ _ _ _ (line-is (c .before .before .before .before .before .before .before .place .ensures)) (omega arith))
+slice-write-lines c =
+    let at-place = before-block-place (c .before .before) in
+    omega (arith, placed-lines _ _ _ _ (line-is (at-place .place .ensures)) (omega arith))
 
 mul-write-block : tie.Need-mul-write-block
-mul-write-block c = omega (arith, placed-bytes _ _ _ _ (line-is (c .before .before .before .before .before .before .before .before .place .ensures)) (omega arith))
+mul-write-block c =
+    let at-place = before-block-place (c .before .before .before) in
+    let at-start = at-place .before .before .before .before .before .before .before in
+    omega (arith, placed-bytes _ _ _ _ (line-is (at-place .place .ensures)) (omega arith), at-start .good .1 .0)
 
 write-block-requires : tie.Need-write-block-requires
 write-block-requires c κs = search needs
+
+plus-requires : tie.Need-plus-requires
+plus-requires c κs = search needs
 
 same-length-4 : tie.Need-same-length-4
 same-length-4 c = search needs
@@ -51,7 +70,13 @@ same-length-6 : tie.Need-same-length-6
 same-length-6 c = search needs
 
 returns-2 : tie.Need-returns-2
-returns-2 c = fetched-is _ _ _ _ _ _ _ _ _ _ _ _ (c .before .before .before .before .before .before .before .before .before .before .before .before .place .ensures) (omega arith) (c .before .before .before .before .before .word .ensures) (c .before .before .before .before .before .before .before .block-place .ensures) (c .before .before .before .before .before .before .read-block .ensures) (c .before .before .write-block .ensures)
+returns-2 c =
+    let at-write-block = c .before .before .before .before .before in
+    let at-word = at-write-block .before .before .before in
+    let at-read-block = at-word .before in
+    let at-block-place = at-read-block .before in
+    let at-place = before-block-place at-block-place in
+    fetched-is _ _ _ _ _ _ _ _ _ _ _ _ _ _ (at-place .place .ensures) (omega arith) (at-word .word .ensures) (at-block-place .block-place .ensures) (at-read-block .read-block .ensures) (at-write-block .write-block .ensures) (c .plus .ensures)
 
 pub fetch-spec : {M : Type 1} → statement M
-fetch-spec = tie.close (tie.spec place-requires same-length same-length-2 same-length-3 returns block-place-requires read-block-requires word-requires mul-lines slice-write-lines mul-write-block write-block-requires same-length-4 same-length-5 same-length-6 returns-2)
+fetch-spec = tie.close (tie.spec place-requires none-requires same-length same-length-2 same-length-3 returns block-place-requires read-block-requires word-requires mul-lines slice-write-lines mul-write-block write-block-requires plus-requires same-length-4 same-length-5 same-length-6 returns-2)

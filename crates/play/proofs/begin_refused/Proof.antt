@@ -11,7 +11,7 @@ same-length : tie.Need-same-length
 same-length c = search needs
 
 returns : tie.Need-returns
-returns c = refused-of _ _ _ (c .before .before .before .fresh .ensures)
+returns c = refused-of _ _ _ (c .before .before .before .before .fresh .ensures)
 
 pub begin-refused-spec : {M : Type 1} → statement M
 begin-refused-spec = tie.close (tie.spec fresh-requires same-length returns)

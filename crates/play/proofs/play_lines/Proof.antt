@@ -32,33 +32,41 @@ line-end-requires : tie.Need-line-end-requires Inv-loop μ-loop
 line-end-requires c κs = omega arith
 
 loop-holds : tie.Need-loop-holds Inv-loop μ-loop
-loop-holds c = (going-start _ _ _ _ _ _ _ _ (c .before .before .row .ensures .0) (c .before .table .ensures .0) (c .before .before .before .before .before .before .before .before .before .before .pre .0) (c .before .before .before .before .before .before .before .before .before .before .pre .1), c .line-end .ensures, c .before .before .row .ensures .1, c .before .table .ensures .1, refl, refl, refl)
+loop-holds c = let at-rows = c .before in
+    let start = at-rows .before .before .before .before .before .before .before .before .before in
+    (going-start _ _ _ _ _ _ _ _ (at-rows .before .row .ensures .0) (at-rows .table .ensures .0) (start .pre .0) (start .pre .1), c .line-end .ensures, at-rows .before .row .ensures .1, at-rows .table .ensures .1, refl, refl, refl)
 
 goes-on-requires : tie.Need-goes-on-requires Inv-loop μ-loop
 goes-on-requires c κs = search needs
 
 sub-parse : tie.Need-sub-parse Inv-loop μ-loop
-sub-parse c = let k = c .before .before .before .loop in
-    let i = c .before .before .before .before .before .before .before .before .before .before .before .before .before .before .args .input .now in
-    let h = sym (c .before .goes-on .ensures) ∙ c .if1 .taken in
+sub-parse c = let at-test = c in
+    let at-turn = at-test .before .before .before in
+    let k = at-turn .loop in
+    let i = at-turn .before .before .before .before .before .before .before .before .before .before .before .args .input .now in
+    let h = sym (at-test .before .goes-on .ensures) ∙ at-test .if1 .taken in
     let b : k .e < length i = tested-end (k .e) i (k .output) (k .written) (k .k) h in
     let m : k .k < 18446744073709551615 = tested-number (k .e) i (k .output) (k .written) (k .k) h in
     let f : k .at ≤ lineEnd i (k .at) = lineEnd-from i (k .at) in
     omega (arith, k .inv .1)
 
 part-parse-start : tie.Need-part-parse-start Inv-loop μ-loop
-part-parse-start c = let k = c .before .before .before .loop in
-    let i = c .before .before .before .before .before .before .before .before .before .before .before .before .before .before .args .input .now in
-    let h = sym (c .before .goes-on .ensures) ∙ c .if1 .taken in
+part-parse-start c = let at-test = c in
+    let at-turn = at-test .before .before .before in
+    let k = at-turn .loop in
+    let i = at-turn .before .before .before .before .before .before .before .before .before .before .before .args .input .now in
+    let h = sym (at-test .before .goes-on .ensures) ∙ at-test .if1 .taken in
     let b : k .e < length i = tested-end (k .e) i (k .output) (k .written) (k .k) h in
     let m : k .k < 18446744073709551615 = tested-number (k .e) i (k .output) (k .written) (k .k) h in
     let f : k .at ≤ lineEnd i (k .at) = lineEnd-from i (k .at) in
     omega (arith, k .inv .1)
 
 part-parse-end : tie.Need-part-parse-end Inv-loop μ-loop
-part-parse-end c = let k = c .before .before .before .loop in
-    let i = c .before .before .before .before .before .before .before .before .before .before .before .before .before .before .args .input .now in
-    let h = sym (c .before .goes-on .ensures) ∙ c .if1 .taken in
+part-parse-end c = let at-test = c in
+    let at-turn = at-test .before .before .before in
+    let k = at-turn .loop in
+    let i = at-turn .before .before .before .before .before .before .before .before .before .before .before .args .input .now in
+    let h = sym (at-test .before .goes-on .ensures) ∙ at-test .if1 .taken in
     let b : k .e < length i = tested-end (k .e) i (k .output) (k .written) (k .k) h in
     let m : k .k < 18446744073709551615 = tested-number (k .e) i (k .output) (k .written) (k .k) h in
     let f : k .at ≤ lineEnd i (k .at) = lineEnd-from i (k .at) in
@@ -77,18 +85,22 @@ add-at c = let k = c .before .before .before .before .before .loop in
     omega arith
 
 line-end-requires-2 : tie.Need-line-end-requires-2 Inv-loop μ-loop
-line-end-requires-2 c κs = let k = c .before .before .before .before .before .loop in
-    let i = c .before .before .before .before .before .before .before .before .before .before .before .before .before .before .before .before .args .input .now in
-    let h = sym (c .before .before .before .goes-on .ensures) ∙ c .before .before .if1 .taken in
+line-end-requires-2 c κs = let at-test = c .before .before in
+    let at-turn = at-test .before .before .before in
+    let k = at-turn .loop in
+    let i = at-turn .before .before .before .before .before .before .before .before .before .before .before .args .input .now in
+    let h = sym (at-test .before .goes-on .ensures) ∙ at-test .if1 .taken in
     let b : k .e < length i = tested-end (k .e) i (k .output) (k .written) (k .k) h in
     let m : k .k < 18446744073709551615 = tested-number (k .e) i (k .output) (k .written) (k .k) h in
     let f : k .at ≤ lineEnd i (k .at) = lineEnd-from i (k .at) in
     omega arith
 
 add-k : tie.Need-add-k Inv-loop μ-loop
-add-k c = let k = c .before .before .before .before .before .before .loop in
-    let i = c .before .before .before .before .before .before .before .before .before .before .before .before .before .before .before .before .before .args .input .now in
-    let h = sym (c .before .before .before .before .goes-on .ensures) ∙ c .before .before .before .if1 .taken in
+add-k c = let at-test = c .before .before .before in
+    let at-turn = at-test .before .before .before in
+    let k = at-turn .loop in
+    let i = at-turn .before .before .before .before .before .before .before .before .before .before .before .args .input .now in
+    let h = sym (at-test .before .goes-on .ensures) ∙ at-test .if1 .taken in
     let b : k .e < length i = tested-end (k .e) i (k .output) (k .written) (k .k) h in
     let m : k .k < 18446744073709551615 = tested-number (k .e) i (k .output) (k .written) (k .k) h in
     let f : k .at ≤ lineEnd i (k .at) = lineEnd-from i (k .at) in
@@ -117,12 +129,14 @@ take-requires : tie.Need-take-requires Inv-loop μ-loop
 take-requires c κs = search needs
 
 mul-trackers : tie.Need-mul-trackers Inv-loop μ-loop
-mul-trackers c = let at-name = c .before .before .before .before .before .before .before .before .before .before .before .before in let at-turn = at-name .before .before .before .before .before .before .before .before in
+mul-trackers c = let at-name = c .before .before .before .before .before .before .before .before .before .before .before .before in
+    let at-turn = at-name .before .before .before .before .before .before .before .before in
     let y : at-name .named .result < 8 = rw (at-name .named .ensures) (going-named _ (at-turn .loop .inv .0) _) in
     omega arith
 
 array-set-from-trackers : tie.Need-array-set-from-trackers Inv-loop μ-loop
-array-set-from-trackers c = let at-name = c .before .before .before .before .before .before .before .before .before .before .before .before in let at-turn = at-name .before .before .before .before .before .before .before .before in
+array-set-from-trackers c = let at-name = c .before .before .before .before .before .before .before .before .before .before .before .before in
+    let at-turn = at-name .before .before .before .before .before .before .before .before in
     let y : at-name .named .result < 8 = rw (at-name .named .ensures) (going-named _ (at-turn .loop .inv .0) _) in
     omega arith
 
@@ -130,9 +144,10 @@ put-line-requires : tie.Need-put-line-requires Inv-loop μ-loop
 put-line-requires c κs = search needs
 
 loop-less : tie.Need-loop-less Inv-loop μ-loop
-loop-less c = let at-test = c .before .before .before .before .before .before .before .before .before .before .before .before .before .before .before .before .before .before .before .before .before in let at-turn = at-test .before .before .before in
-    let i = at-turn .before .before .before .before .before .before .before .before .before .before .before .args .input .now in
+loop-less c = let at-test = c .before .before .before .before .before .before .before .before .before .before .before .before .before .before .before .before .before .before .before .before .before .before in
+    let at-turn = at-test .before .before .before in
     let k = at-turn .loop in
+    let i = at-turn .before .before .before .before .before .before .before .before .before .before .before .args .input .now in
     let h = sym (at-test .before .goes-on .ensures) ∙ at-test .if1 .taken in
     let b : k .e < length i = tested-end (k .e) i (k .output) (k .written) (k .k) h in
     let m : k .k < 18446744073709551615 = tested-number (k .e) i (k .output) (k .written) (k .k) h in
@@ -142,7 +157,7 @@ loop-less c = let at-test = c .before .before .before .before .before .before .b
 loop-again : tie.Need-loop-again Inv-loop μ-loop
 unfolding part
 loop-again c = let at-text = c .before .before in
-    let at-take = at-text .before .before .before .before .before .before .before .before .before in
+    let at-take = at-text .before .before .before .before .before .before .before .before .before .before in
     let at-name = at-take .before .before .before .before .before in
     let at-ask = at-name .before in
     let at-end = at-ask .before in
@@ -174,11 +189,13 @@ same-length-3 : tie.Need-same-length-3 Inv-loop μ-loop
 same-length-3 c = search needs
 
 returns : tie.Need-returns Inv-loop μ-loop
-returns c = let k = c .before .before .before .loop in
-    let a = c .before .before .before .before .before .before .before .before .before .before .before .before .before .before .args in
-    let i = a .input .now in
-    let on : goesOn i (under (k .shape) (k .lines) (k .trackers) (k .bytes) (k .memory) (k .k) (k .at) (k .output) (k .written)) ≡ false = sym (on-is i (under (k .shape) (k .lines) (k .trackers) (k .bytes) (k .memory) (k .k) (k .at) (k .output) (k .written)) (k .e) (k .inv .1)) ∙ sym (c .before .goes-on .ensures) ∙ c .if1 .left in
-    going-stops i _ _ _ _ _ _ _ (c .before .before .before .before .before .before .row .ensures .0) (c .before .before .before .before .before .table .ensures .0) (k .inv .0) on
+returns c = let at-turn = c .before .before .before in
+    let at-rows = at-turn .before .before in
+    let k = at-turn .loop in
+    let i = at-turn .before .before .before .before .before .before .before .before .before .before .before .args .input .now in
+    let p = under (k .shape) (k .lines) (k .trackers) (k .bytes) (k .memory) (k .k) (k .at) (k .output) (k .written) in
+    let on : goesOn i p ≡ false = sym (on-is i p (k .e) (k .inv .1)) ∙ sym (c .before .goes-on .ensures) ∙ c .if1 .left in
+    going-stops i _ _ _ _ _ _ _ (at-rows .before .row .ensures .0) (at-rows .table .ensures .0) (k .inv .0) on
 
 pub play-lines-spec : {M : Type 1} → statement M
 play-lines-spec =

@@ -29,7 +29,7 @@ same-length c = search needs
 
 returns : tie.Need-returns
 returns c = let put = c .before .before in let at-entry = put .before .before .before in let a = at-entry .args in
-    put-in (a .answers .now) (a .at) (saidCoded (says (a .answer))) (at-entry .pre) (put .put-said .ensures) (put .put-said .kept .1 .0)
+    put-in (a .answers .now) (a .at) (saidCoded (says (a .answer)) (a .t)) (at-entry .pre) (put .put-said .ensures) (put .put-said .kept .1 .1 .0)
 
 pub put-at-spec : {M : Type 1} → statement M
 put-at-spec =

@@ -66,18 +66,18 @@ array-set-from-trackers c = let at-name = c .before .before .before .before .bef
     omega arith
 
 put-at-requires : tie.Need-put-at-requires Inv-loop μ-loop
-put-at-requires c κs = let at-test = c .before .before .before .before .before .before .before .before .before .before .before .before .before .before .before in let at-turn = at-test .before in let at-entry = at-turn .before .before .before .before .before .before .before .before .before .before in
+put-at-requires c κs = let at-test = c .before .before .before .before .before .before .before .before .before .before .before .before .before .before .before .before in let at-turn = at-test .before in let at-entry = at-turn .before .before .before .before .before .before .before .before .before .before in
     omega (arith, at-test .loop-test .taken, at-turn .loop .inv .6, at-entry .pre .2)
 
 add-i : tie.Need-add-i Inv-loop μ-loop
-add-i c = let at-test = c .before .before .before .before .before .before .before .before .before .before .before .before .before .before .before .before .before .before in omega (arith, at-test .loop-test .taken)
+add-i c = let at-test = c .before .before .before .before .before .before .before .before .before .before .before .before .before .before .before .before .before .before .before in omega (arith, at-test .loop-test .taken)
 
 loop-less : tie.Need-loop-less Inv-loop μ-loop
-loop-less c = let at-test = c .before .before .before .before .before .before .before .before .before .before .before .before .before .before .before .before .before .before in omega (arith, at-test .loop-test .taken)
+loop-less c = let at-test = c .before .before .before .before .before .before .before .before .before .before .before .before .before .before .before .before .before .before .before in omega (arith, at-test .loop-test .taken)
 
 loop-again : tie.Need-loop-again Inv-loop μ-loop
 loop-again c = let at-put = c .before .before in
-    let at-take = at-put .before .before .before .before .before .before .before .before .before in
+    let at-take = at-put .before .before .before .before .before .before .before .before .before .before in
     let at-name = at-take .before .before .before .before .before in
     let at-ask = at-name .before in
     let at-test = at-ask .before in

@@ -20,7 +20,10 @@ same-length : tie.Need-same-length
 same-length c = search needs
 
 returns : tie.Need-returns
-returns c = by-rule (inLine-none _ _ _ _ _ (c .before .before .before .map-block .ensures) (c .before .before .line-of .ensures) _ (omega arith)) (c .refuses .ensures _ _ _)
+returns c =
+    let at-line-of = c .before .before in
+    let at-map-block = at-line-of .before in
+    by-rule (inLine-none _ _ _ _ _ (at-map-block .map-block .ensures) (at-line-of .line-of .ensures) _ (omega arith)) (c .refuses .ensures _ _ _)
 
 bit-in-requires : tie.Need-bit-in-requires
 bit-in-requires c κs = search needs
@@ -38,7 +41,12 @@ same-length-4 : tie.Need-same-length-4
 same-length-4 c = search needs
 
 returns-2 : tie.Need-returns-2
-returns-2 c = by-rule (inLine-leaf _ _ _ _ _ (c .before .before .before .before .before .before .before .before .before .before .before .before .before .before .map-block .ensures) (c .before .before .before .before .before .before .before .before .before .before .before .before .before .line-of .ensures) _ (omega arith) (rows-fit _ _ _ (omega arith) (omega arith)) (c .before .before .before .before .before .before .before .before .before .before .bit-in .ensures)) (c .before .before .before .before .before .before .leaf .ensures)
+returns-2 c =
+    let at-leaf = c .before .before .before .before .before .before in
+    let at-bit-in = at-leaf .before .before .before .before in
+    let at-line-of = at-bit-in .before .before .before in
+    let at-map-block = at-line-of .before in
+    by-rule (inLine-leaf _ _ _ _ _ (at-map-block .map-block .ensures) (at-line-of .line-of .ensures) _ (omega arith) (rows-fit _ _ _ (omega arith) (omega arith)) (at-bit-in .bit-in .ensures)) (at-leaf .leaf .ensures)
 
 pub at-leaf-spec : {M : Type 1} → statement M
 at-leaf-spec = tie.close (tie.spec map-block-requires line-of-requires refuses-requires same-length returns bit-in-requires leaf-requires same-length-2 same-length-3 same-length-4 returns-2)

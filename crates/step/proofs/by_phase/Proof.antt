@@ -53,7 +53,9 @@ same-length-2 : tie.Need-same-length-2
 same-length-2 c = search needs
 
 returns-2 : tie.Need-returns-2
-returns-2 c = by-rule (at-probe _ _ _ _ (rows-fit _ _ _ (omega arith) (omega arith)) (c .before .before .before .enum-told2 .given .1)) (c .probe .ensures _)
+returns-2 c =
+    let at-enum-told2 = c .before .before .before in
+    by-rule (at-probe _ _ _ _ (rows-fit _ _ _ (omega arith) (omega arith)) (at-enum-told2 .enum-told2 .given .1)) (c .probe .ensures _)
 
 same-length-3 : tie.Need-same-length-3
 same-length-3 c = search needs
@@ -65,7 +67,10 @@ same-length-5 : tie.Need-same-length-5
 same-length-5 c = search needs
 
 returns-3 : tie.Need-returns-3
-returns-3 c = by-rule (at-phase _ _ _ _ (c .before .before .before .before .before .before .before .before .before .before .enum-told3 .given .1)) (c .before .before .before .before .before .before .map .ensures)
+returns-3 c =
+    let at-map = c .before .before .before .before .before .before in
+    let at-enum-told3 = at-map .before .before .before .before in
+    by-rule (at-phase _ _ _ _ (at-enum-told3 .enum-told3 .given .1)) (at-map .map .ensures)
 
 same-length-6 : tie.Need-same-length-6
 same-length-6 c = search needs
@@ -77,7 +82,10 @@ same-length-8 : tie.Need-same-length-8
 same-length-8 c = search needs
 
 returns-4 : tie.Need-returns-4
-returns-4 c = by-rule (at-phase _ _ _ _ (c .before .before .before .before .before .before .before .before .before .before .enum-told4 .given .1)) (c .before .before .before .before .before .before .at-leaf .ensures)
+returns-4 c =
+    let at-at-leaf = c .before .before .before .before .before .before in
+    let at-enum-told4 = at-at-leaf .before .before .before .before in
+    by-rule (at-phase _ _ _ _ (at-enum-told4 .enum-told4 .given .1)) (at-at-leaf .at-leaf .ensures)
 
 same-length-9 : tie.Need-same-length-9
 same-length-9 c = search needs
@@ -86,7 +94,10 @@ same-length-10 : tie.Need-same-length-10
 same-length-10 c = search needs
 
 returns-5 : tie.Need-returns-5
-returns-5 c = by-rule (at-phase _ _ _ _ (c .before .before .before .before .before .before .before .enum-told5 .given .1)) (c .before .before .before .before .finishes .ensures _)
+returns-5 c =
+    let at-finishes = c .before .before .before .before in
+    let at-enum-told5 = at-finishes .before .before .before in
+    by-rule (at-phase _ _ _ _ (at-enum-told5 .enum-told5 .given .1)) (at-finishes .finishes .ensures _)
 
 same-length-11 : tie.Need-same-length-11
 same-length-11 c = search needs
@@ -95,7 +106,10 @@ same-length-12 : tie.Need-same-length-12
 same-length-12 c = search needs
 
 returns-6 : tie.Need-returns-6
-returns-6 c = by-rule (at-phase _ _ _ _ (c .before .before .before .before .before .before .before .enum-told6 .given .1)) (c .before .before .before .before .finishes2 .ensures _)
+returns-6 c =
+    let at-finishes2 = c .before .before .before .before in
+    let at-enum-told6 = at-finishes2 .before .before .before in
+    by-rule (at-phase _ _ _ _ (at-enum-told6 .enum-told6 .given .1)) (at-finishes2 .finishes2 .ensures _)
 
 pub by-phase-spec : {M : Type 1} → statement M
 by-phase-spec = tie.close (tie.spec enum-told refuses-requires enum-told-2 probe-requires enum-told-3 map-requires enum-told-4 at-leaf-requires enum-told-5 finishes-requires enum-told-6 finishes-requires-2 returns same-length same-length-2 returns-2 same-length-3 same-length-4 same-length-5 returns-3 same-length-6 same-length-7 same-length-8 returns-4 same-length-9 same-length-10 returns-5 same-length-11 same-length-12 returns-6)

@@ -28,6 +28,9 @@ put-bit-requires c κs = search needs
 let-go-requires : tie.Need-let-go-requires
 let-go-requires c κs = search needs
 
+none-requires : tie.Need-none-requires
+none-requires c κs = search needs
+
 ends-done-requires : tie.Need-ends-done-requires
 ends-done-requires c κs = search needs
 
@@ -39,8 +42,13 @@ same-length-2 c = search needs
 
 returns : tie.Need-returns
 returns c =
-    λ m. by-rule (finish-is _ _ _ _ _ _ _ _ _ _ m _ (c .before .before .before .before .before .before .before .before .before .before .before .leaf-of .ensures) (c .before .before .before .before .before .before .before .before .before .map-byte-of .ensures) (c .before .before .before .before .before .before .before .before .map-bit-of .ensures) (c .before .before .before .let-go .ensures) (c .before .before .before .before .before .before .before .put-bit .ensures))
+    let at-let-go = c .before .before .before .before in
+    let at-put-bit = at-let-go .before .before .before .before in
+    let at-map-bit-of = at-put-bit .before in
+    let at-map-byte-of = at-map-bit-of .before in
+    let at-leaf-of = at-map-byte-of .before .before in
+    λ m. by-rule (finish-is _ _ _ _ _ _ _ _ _ _ m _ (c .before .none .ensures) (at-leaf-of .leaf-of .ensures) (at-map-byte-of .map-byte-of .ensures) (at-map-bit-of .map-bit-of .ensures) (at-let-go .let-go .ensures) (at-put-bit .put-bit .ensures))
     (c .ends-done .ensures _ _ m)
 
 pub finish-spec : {M : Type 1} → statement M
-finish-spec = tie.close (tie.spec leaf-of-requires mul-put-bit map-byte-of-requires add-put-bit map-bit-of-requires put-bit-requires let-go-requires ends-done-requires same-length same-length-2 returns)
+finish-spec = tie.close (tie.spec leaf-of-requires mul-put-bit map-byte-of-requires add-put-bit map-bit-of-requires put-bit-requires let-go-requires none-requires ends-done-requires same-length same-length-2 returns)

@@ -19,7 +19,10 @@ same-length : tie.Need-same-length
 same-length c = search needs
 
 returns : tie.Need-returns
-returns c = λ m. by-rule (inLine-none _ _ _ _ _ (c .before .before .before .map-block .ensures) (c .before .before .line-of .ensures) _ (omega arith)) (c .refuses .ensures _ _ m)
+returns c =
+    let at-line-of = c .before .before in
+    let at-map-block = at-line-of .before in
+    λ m. by-rule (inLine-none _ _ _ _ _ (at-map-block .map-block .ensures) (at-line-of .line-of .ensures) _ (omega arith)) (c .refuses .ensures _ _ m)
 
 finish-requires : tie.Need-finish-requires
 finish-requires c κs = search needs
@@ -31,7 +34,12 @@ same-length-3 : tie.Need-same-length-3
 same-length-3 c = search needs
 
 returns-2 : tie.Need-returns-2
-returns-2 c = λ m. by-rule (inLine-finish _ _ _ _ _ (c .before .before .before .before .before .before .before .before .before .map-block .ensures) (c .before .before .before .before .before .before .before .before .line-of .ensures) (c .before .before .before .before .before .before .before .before .before .before .before .before .before .args .set) (omega arith)) (c .before .before .before .before .finish .ensures m)
+returns-2 c =
+    let at-finish = c .before .before .before .before in
+    let at-line-of = at-finish .before .before .before .before in
+    let at-map-block = at-line-of .before in
+    let a = at-map-block .before .before .before .before .args in
+    λ m. by-rule (inLine-finish _ _ _ _ _ (at-map-block .map-block .ensures) (at-line-of .line-of .ensures) (a .set) (omega arith)) (at-finish .finish .ensures m)
 
 pub finishes-spec : {M : Type 1} → statement M
 finishes-spec = tie.close (tie.spec map-block-requires line-of-requires refuses-requires same-length returns finish-requires same-length-2 same-length-3 returns-2)

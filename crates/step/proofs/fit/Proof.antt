@@ -29,7 +29,10 @@ returns-3 : tie.Need-returns-3
 returns-3 c = λ bs m. fit-group _ _ _ _ (omega arith)
 
 returns-4 : tie.Need-returns-4
-returns-4 c = λ bs m. fit-rest _ _ _ _ (sym (c .before .before .before .before .before .before .in-limits .ensures) ∙ not-false _ (c .before .before .before .before .before .if1 .left)) (omega arith) (omega arith)
+returns-4 c =
+    let at-if1 = c .before .before .before .before .before in
+    let at-in-limits = at-if1 .before in
+    λ bs m. fit-rest _ _ _ _ (sym (at-in-limits .in-limits .ensures) ∙ not-false _ (at-if1 .if1 .left)) (omega arith) (omega arith)
 
 pub fit-spec : {M : Type 1} → statement M
 fit-spec = tie.close (tie.spec cast-in-limits in-limits-requires returns returns-2 groups-requires cast-if3 returns-3 returns-4)

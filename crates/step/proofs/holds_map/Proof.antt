@@ -32,7 +32,7 @@ same-length c = search needs
 returns : tie.Need-returns
 returns c =
     let a = c .before .before .before .before .args in
-    λ bs m. by-rule (holds-is (a .x) (a .i) (a .shape) _ (a .t) (a .lines .now) bs m (c .before .held-by .ensures)) (c .goes .ensures _ bs m)
+    λ bs m. by-rule (holds-is (a .x) (a .spot .line) (a .spot .shape) (a .spot .copies) _ (a .t) (a .lines .now) bs m (c .before .held-by .ensures)) (c .goes .ensures _ bs m)
 
 pub holds-map-spec : {M : Type 1} → statement M
 holds-map-spec = tie.close (tie.spec mul-held-by slice-read-held-by add-held-by held-by-requires mul-lines slice-write-lines goes-requires same-length returns)

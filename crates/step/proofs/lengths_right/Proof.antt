@@ -16,7 +16,9 @@ memory-length-requires : tie.Need-memory-length-requires
 memory-length-requires c κs = search needs
 
 returns-2 : tie.Need-returns-2
-returns-2 c = lengths-memory _ _ _ (sym (c .before .before .bytes-fit .ensures) ∙ not-false _ (c .before .if1 .left)) (c .memory-length .ensures)
+returns-2 c =
+    let at-bytes-fit = c .before .before in
+    lengths-memory _ _ _ (sym (at-bytes-fit .bytes-fit .ensures) ∙ not-false _ (c .before .if1 .left)) (c .memory-length .ensures)
 
 pub lengths-right-spec : {M : Type 1} → statement M
 lengths-right-spec = tie.close (tie.spec bytes-fit-requires returns memory-length-requires returns-2)

@@ -13,7 +13,7 @@ use Rattle.text.proofs.put_line.Tie as tie
 returns : tie.Need-returns
 returns c =
     let a = c .before .before .args in
-    no-room (a .out .now) (a .at) (a .k) (says (a .answer)) (omega arith)
+    no-room (a .out .now) (a .at) (a .k) (says (a .answer)) (a .transfers) (omega arith)
 
 sub-if2 : tie.Need-sub-if2
 sub-if2 c = search needs
@@ -21,7 +21,7 @@ sub-if2 c = search needs
 returns-2 : tie.Need-returns-2
 returns-2 c =
     let a = c .before .before .before .args in
-    no-room (a .out .now) (a .at) (a .k) (says (a .answer)) (omega arith)
+    no-room (a .out .now) (a .at) (a .k) (says (a .answer)) (a .transfers) (omega arith)
 
 put-room-requires : tie.Need-put-room-requires
 put-room-requires c κs = search needs
@@ -31,9 +31,10 @@ same-length c = search needs
 
 returns-3 : tie.Need-returns-3
 returns-3 c =
-    let a = c .before .before .before .before .before .before .before .args in
-    let e = c .before .before .put-room .ensures in
-    let t = room (a .out .now) (a .at) (a .k) (says (a .answer)) (omega arith) in
+    let at-room = c .before .before in
+    let a = at-room .before .before .before .before .before .args in
+    let e = at-room .put-room .ensures in
+    let t = room (a .out .now) (a .at) (a .k) (says (a .answer)) (a .transfers) (omega arith) in
     (e .0 ∙ ap (splice (a .out .now) (a .at)) t, e .1 ∙ ap (λ l. a .at + length l) t)
 
 pub put-line-spec : {M : Type 1} → statement M

@@ -2,7 +2,7 @@
 use borrow.Author.Needs.{needs}
 use mathlib.Core.Path.{ap}
 use native.Mathlib.Omega.{arith}
-use Rattle.rules.specs.State.{Rows}
+use Rattle.placing.specs.Lines.{Drained}
 use Rattle.turn.specs.Turn.{accepts}
 use Rattle.outcome.proofs.Rule.{by-rule}
 use Rattle.turn.proofs.Ways.{drain-no, drain-ok}
@@ -28,8 +28,11 @@ same-length-2 : tie.Need-same-length-2
 same-length-2 c = search needs
 
 returns-2 : tie.Need-returns-2
-returns-2 c = by-rule (drain-ok _ _ _ _ _ (c .before .before .before .before .before .before .before .before .drain-refusal .ensures) (omega arith))
-    (let a = c .before .before .before .before .before .before .before .before .before .before .before .before .args in ap (λ (y : Rows). accepts (a .shape) (a .u) y) (c .before .before .before .before .drain .ensures))
+returns-2 c =
+    let at-drain = c .before .before .before .before in
+    let at-refusal = at-drain .before .before .before .before in
+    let a = at-refusal .before .before .before .before .args in
+    by-rule (drain-ok _ _ _ _ _ (at-refusal .drain-refusal .ensures) (omega arith)) (ap (λ (d : Drained). accepts (a .shape) (a .u) (d .copies) (d .rows)) (at-drain .drain .ensures))
 
 pub drain-spec : {M : Type 1} → statement M
 drain-spec =

@@ -19,9 +19,12 @@ returns c = λ ls bs m. by-rule (issue-no _ _ _ _ _ _ _ (c .before .before .issu
 begin-requires : tie.Need-begin-requires
 begin-requires c κs = search needs
 
+none-requires : tie.Need-none-requires
+none-requires c κs = search needs
+
 returns-2 : tie.Need-returns-2
-returns-2 c = λ ls bs m. by-rule (issue-ok _ _ _ _ _ _ _ (c .before .before .issue-refusal .ensures) (omega arith))
-    (rw (c .begin .ensures) refl)
+returns-2 c = λ ls bs m. by-rule (issue-ok _ _ _ _ _ _ _ (c .before .before .before .issue-refusal .ensures) (omega arith))
+    (rw (c .before .begin .ensures, c .none .ensures) refl)
 
 pub issue-spec : {M : Type 1} → statement M
-issue-spec = tie.close (tie.spec issue-refusal-requires refuses-requires returns begin-requires returns-2)
+issue-spec = tie.close (tie.spec issue-refusal-requires refuses-requires returns begin-requires none-requires returns-2)

@@ -1,12 +1,10 @@
 -- `drain` meets its contract: refused, or the rows are drained.
 use borrow.Author.Needs.{needs}
-use mathlib.Core.Path.{_≡_, sym, ap, _∙_}
+use mathlib.Core.Path.{_≡_, sym, _∙_}
 use native.Mathlib.Omega.{arith}
 use lib.ListN.{length}
-use Rattle.rules.specs.State.{Rows}
-use Rattle.rules.specs.Calls.{accepted, withLines}
 use Rattle.cache.specs.Seen.{seen}
-use Rattle.cache.proofs.Refusals.{drain-rows, drain-refused, drain-accepted}
+use Rattle.cache.proofs.Refusals.{drain-refused, drain-accepted}
 use Rattle.cache.proofs.State.drain.Statement.{statement}
 use Rattle.cache.proofs.State.drain.Tie as tie
 
@@ -20,8 +18,10 @@ same-length : tie.Need-same-length
 same-length c = search needs
 
 returns : tie.Need-returns
-returns c = let a = c .before .before .before .before .before .before .args in
-    rw (c .refuse .ensures .0, c .refuse .ensures .1) (sym (drain-refused (seen (a .t1)) (a .bytes .now) (a .memory .now) (c .before .before .drain-refusal .result) (c .before .before .drain-refusal .ensures) (omega arith)))
+returns c =
+    let at-drain-refusal = c .before .before in
+    let a = at-drain-refusal .before .before .before .before .args in
+    c .refuse .ensures _ _ ∙ sym (drain-refused (seen (a .t1)) (a .bytes .now) (a .memory .now) (at-drain-refusal .drain-refusal .result) (at-drain-refusal .drain-refusal .ensures) (omega arith))
 
 drain-row-requires : tie.Need-drain-row-requires
 drain-row-requires c κs = search needs
@@ -30,19 +30,12 @@ same-length-2 : tie.Need-same-length-2
 same-length-2 c = search needs
 
 returns-2 : tie.Need-returns-2
-returns-2 c = let a = c .before .before .before .before .before .before .before .before .before .before .before .args in
-    let e : length (a .t1 .lines) ≡ 64 = search needs in
-    ap (λ (y : Rows). accepted (withLines (seen (a .t1)) (y .lines)) (a .bytes .now) (y .memory)) (c .before .before .drain-row .ensures ∙ drain-rows (seen (a .t1)) (a .bytes .now) (a .memory .now) (omega arith) e)
-    ∙ sym (drain-accepted (seen (a .t1)) (a .bytes .now) (a .memory .now) (omega arith))
+returns-2 c =
+    let at-drain-row = c .before .before in
+    let at-start = at-drain-row .before .before .before .before .before .before .before .before .before in
+    let a = at-start .args in
+    let e : length (a .t1 .lines) ≡ 64 = search (needs, at-start .good .0) in
+    drain-accepted (seen (a .t1)) (a .bytes .now) (a .memory .now) (omega arith) e (at-drain-row .drain-row .ensures)
 
 pub drain-spec : {M : Type 1} → statement M
-drain-spec =
-    tie.close
-    (tie.spec
-    drain-refusal-requires
-    refuse-requires
-    same-length
-    returns
-    drain-row-requires
-    same-length-2
-    returns-2)
+drain-spec = tie.close (tie.spec drain-refusal-requires refuse-requires same-length returns drain-row-requires same-length-2 returns-2)

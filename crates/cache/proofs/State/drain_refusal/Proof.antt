@@ -11,14 +11,16 @@ unfit-requires : tie.Need-unfit-requires
 unfit-requires c κs = search needs
 
 returns : tie.Need-returns
-returns c = let a = c .before .before .before .before .args in
+returns c =
+    let a = c .before .before .before .before .args in
     c .before .unfit .ensures ∙ sym (drain-unfit (seen (a .self)) (a .bytes .now) (a .memory .now) (omega arith))
 
 drain-refusal-requires : tie.Need-drain-refusal-requires
 drain-refusal-requires c κs = search needs
 
 returns-2 : tie.Need-returns-2
-returns-2 c = let a = c .before .before .before .before .before .before .before .args in
+returns-2 c =
+    let a = c .before .before .before .before .before .before .before .args in
     c .drain-refusal .ensures ∙ sym (drain-fit (seen (a .self)) (a .bytes .now) (a .memory .now) (omega arith))
 
 pub drain-refusal-spec : {M : Type 1} → statement M

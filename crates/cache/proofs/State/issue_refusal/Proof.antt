@@ -11,14 +11,16 @@ unfit-requires : tie.Need-unfit-requires
 unfit-requires c κs = search needs
 
 returns : tie.Need-returns
-returns c = let a = c .before .before .before .before .args in
+returns c =
+    let a = c .before .before .before .before .args in
     c .before .unfit .ensures ∙ sym (issue-unfit (seen (a .self)) (a .bytes .now) (a .memory .now) (a .x) (a .access) (omega arith))
 
 issue-refusal-requires : tie.Need-issue-refusal-requires
 issue-refusal-requires c κs = search needs
 
 returns-2 : tie.Need-returns-2
-returns-2 c = let a = c .before .before .before .before .before .before .before .args in
+returns-2 c =
+    let a = c .before .before .before .before .before .before .before .args in
     c .issue-refusal .ensures ∙ sym (issue-fit (seen (a .self)) (a .bytes .now) (a .memory .now) (a .x) (a .access) (omega arith))
 
 pub issue-refusal-spec : {M : Type 1} → statement M

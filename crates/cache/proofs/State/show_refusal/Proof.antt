@@ -11,14 +11,16 @@ unfit-requires : tie.Need-unfit-requires
 unfit-requires c κs = search needs
 
 returns : tie.Need-returns
-returns c = let a = c .before .before .before .before .args in
+returns c =
+    let a = c .before .before .before .before .args in
     c .before .unfit .ensures ∙ sym (show-unfit (seen (a .self)) (a .bytes .now) (a .memory .now) (a .k) (omega arith))
 
 show-refusal-requires : tie.Need-show-refusal-requires
 show-refusal-requires c κs = search needs
 
 returns-2 : tie.Need-returns-2
-returns-2 c = let a = c .before .before .before .before .before .before .before .args in
+returns-2 c =
+    let a = c .before .before .before .before .before .before .before .args in
     c .show-refusal .ensures ∙ sym (show-fit (seen (a .self)) (a .bytes .now) (a .memory .now) (a .k) (omega arith))
 
 pub show-refusal-spec : {M : Type 1} → statement M

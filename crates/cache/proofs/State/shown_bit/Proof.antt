@@ -35,26 +35,22 @@ bit-at-requires : tie.Need-bit-at-requires
 bit-at-requires c κs = search needs
 
 returns : tie.Need-returns
-returns c = rw (c .bit-at .ensures, c .before .map-bit-of .ensures, c .before .before .map-byte-of .ensures) (sym (bit-lined (seen (c .before .before .before .before .before .before .before .before .before .before .before .before .args .t1)) (c .before .before .before .before .before .before .before .before .before .before .before .before .args .bytes .now) (c .before .before .before .before .before .before .before .before .before .before .before .before .args .memory .now) (c .before .before .before .before .before .before .before .before .before .before .before .before .args .k) (c .before .before .before .before .line-of .result) (c .before .before .before .before .line-of .ensures ∙ rw (c .before .before .before .before .before .map-number .ensures) refl) (omega arith)))
+returns c =
+    let at-map-byte-of = c .before .before in
+    let at-line-of = at-map-byte-of .before .before in
+    let at-map-number = at-line-of .before in
+    let a = at-map-number .before .before .before .before .before .before .before .args in
+    rw (c .bit-at .ensures, c .before .map-bit-of .ensures, at-map-byte-of .map-byte-of .ensures) (sym (bit-lined (seen (a .t1)) (a .bytes .now) (a .memory .now) (a .k) (at-line-of .line-of .result) (at-line-of .line-of .ensures ∙ rw (at-map-number .map-number .ensures) refl) (omega arith)))
 
 leaf-bit-requires : tie.Need-leaf-bit-requires
 leaf-bit-requires c κs = search needs
 
 returns-2 : tie.Need-returns-2
-returns-2 c = rw (c .leaf-bit .ensures) (sym (bit-memory (seen (c .before .before .before .before .before .before .before .before .before .before .args .t1)) (c .before .before .before .before .before .before .before .before .before .before .args .bytes .now) (c .before .before .before .before .before .before .before .before .before .before .args .memory .now) (c .before .before .before .before .before .before .before .before .before .before .args .k) (c .before .before .line-of .result) (c .before .before .line-of .ensures ∙ rw (c .before .before .before .map-number .ensures) refl) (omega arith)))
+returns-2 c =
+    let at-line-of = c .before .before in
+    let at-map-number = at-line-of .before in
+    let a = at-map-number .before .before .before .before .before .before .before .args in
+    rw (c .leaf-bit .ensures) (sym (bit-memory (seen (a .t1)) (a .bytes .now) (a .memory .now) (a .k) (at-line-of .line-of .result) (at-line-of .line-of .ensures ∙ rw (at-map-number .map-number .ensures) refl) (omega arith)))
 
 pub shown-bit-spec : {M : Type 1} → statement M
-shown-bit-spec =
-    tie.close
-    (tie.spec
-    map-number-requires
-    cast-line-of
-    line-of-requires
-    mul-bit-at
-    map-byte-of-requires
-    add-bit-at
-    map-bit-of-requires
-    bit-at-requires
-    returns
-    leaf-bit-requires
-    returns-2)
+shown-bit-spec = tie.close (tie.spec map-number-requires cast-line-of line-of-requires mul-bit-at map-byte-of-requires add-bit-at map-bit-of-requires bit-at-requires returns leaf-bit-requires returns-2)

@@ -11,14 +11,16 @@ unfit-requires : tie.Need-unfit-requires
 unfit-requires c κs = search needs
 
 returns : tie.Need-returns
-returns c = let a = c .before .before .before .before .args in
+returns c =
+    let a = c .before .before .before .before .args in
     c .before .unfit .ensures ∙ sym (step-unfit (seen (a .self)) (a .bytes .now) (a .memory .now) (a .x) (omega arith))
 
 step-refusal-requires : tie.Need-step-refusal-requires
 step-refusal-requires c κs = search needs
 
 returns-2 : tie.Need-returns-2
-returns-2 c = let a = c .before .before .before .before .before .before .before .args in
+returns-2 c =
+    let a = c .before .before .before .before .before .before .before .args in
     c .step-refusal .ensures ∙ sym (step-fit (seen (a .self)) (a .bytes .now) (a .memory .now) (a .x) (omega arith))
 
 pub step-refusal-spec : {M : Type 1} → statement M

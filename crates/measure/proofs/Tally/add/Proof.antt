@@ -5,6 +5,12 @@ use borrow.Author.Needs.{needs}
 use Rattle.measure.proofs.Tally.add.Statement.{statement}
 use Rattle.measure.proofs.Tally.add.Tie as tie
 
+plus-requires : tie.Need-plus-requires
+plus-requires c κs = search needs
+
+plus-requires-2 : tie.Need-plus-requires-2
+plus-requires-2 c κs = search needs
+
 drift-requires : tie.Need-drift-requires
 drift-requires c κs = search needs
 
@@ -37,31 +43,49 @@ more-requires-5 c κs = search needs
 
 returns : tie.Need-returns
 returns c =
-    add-farther _ _ _ _ _ _ _ _ _ _ _
-    (c .before .before .before .before .before .before .before .before .before .before .long .ensures ∙ c .before .before .before .before .before .before .before .before .before .before .before .drift .ensures)
-    (c .before .before .before .before .before .before .before .before .counted .ensures)
-    (c .before .before .before .before .before .before .counted2 .ensures)
-    (c .before .before .before .counted3 .ensures)
-    (c .before .before .before .before .before .before .before .before .before .more .ensures)
-    (c .before .before .before .before .before .before .before .more2 .ensures)
-    (c .before .before .before .before .before .more3 .ensures)
-    (c .before .before .before .before .more4 .ensures)
-    (c .before .before .more5 .ensures)
+    let at-changed = c .before .before in
+    let at-total = at-changed .before .before in
+    let at-drifted = at-total .before in
+    let at-endings = at-drifted .before .before in
+    let at-lines = at-endings .before .before in
+    let at-drift = at-lines .before in
+    let at-blocks = at-drift .before .before in
+    add-farther _ _ _ _ _ _ _ _ _ _ _ _ _
+    (at-drift .long .ensures ∙ at-drift .before .drift .ensures)
+    (at-endings .before .counted .ensures)
+    (at-drifted .before .counted2 .ensures)
+    (at-changed .before .counted3 .ensures)
+    (at-lines .more .ensures)
+    (at-endings .more2 .ensures)
+    (at-drifted .more3 .ensures)
+    (at-total .more4 .ensures)
+    (at-changed .more5 .ensures)
+    (at-blocks .before .plus .ensures)
+    (at-blocks .plus2 .ensures)
     (c .if1 .taken)
 
 returns-2 : tie.Need-returns-2
 returns-2 c =
-    add-nearer _ _ _ _ _ _ _ _ _ _ _
-    (c .before .before .before .before .before .before .before .before .before .before .long .ensures ∙ c .before .before .before .before .before .before .before .before .before .before .before .drift .ensures)
-    (c .before .before .before .before .before .before .before .before .counted .ensures)
-    (c .before .before .before .before .before .before .counted2 .ensures)
-    (c .before .before .before .counted3 .ensures)
-    (c .before .before .before .before .before .before .before .before .before .more .ensures)
-    (c .before .before .before .before .before .before .before .more2 .ensures)
-    (c .before .before .before .before .before .more3 .ensures)
-    (c .before .before .before .before .more4 .ensures)
-    (c .before .before .more5 .ensures)
+    let at-changed = c .before .before in
+    let at-total = at-changed .before .before in
+    let at-drifted = at-total .before in
+    let at-endings = at-drifted .before .before in
+    let at-lines = at-endings .before .before in
+    let at-drift = at-lines .before in
+    let at-blocks = at-drift .before .before in
+    add-nearer _ _ _ _ _ _ _ _ _ _ _ _ _
+    (at-drift .long .ensures ∙ at-drift .before .drift .ensures)
+    (at-endings .before .counted .ensures)
+    (at-drifted .before .counted2 .ensures)
+    (at-changed .before .counted3 .ensures)
+    (at-lines .more .ensures)
+    (at-endings .more2 .ensures)
+    (at-drifted .more3 .ensures)
+    (at-total .more4 .ensures)
+    (at-changed .more5 .ensures)
+    (at-blocks .before .plus .ensures)
+    (at-blocks .plus2 .ensures)
     (c .if1 .left)
 
 pub add-spec : {M : Type 1} → statement M
-add-spec = tie.close (tie.spec drift-requires long-requires more-requires counted-requires more-requires-2 counted-requires-2 more-requires-3 more-requires-4 counted-requires-3 more-requires-5 returns returns-2)
+add-spec = tie.close (tie.spec plus-requires plus-requires-2 drift-requires long-requires more-requires counted-requires more-requires-2 counted-requires-2 more-requires-3 more-requires-4 counted-requires-3 more-requires-5 returns returns-2)
