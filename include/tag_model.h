@@ -25,7 +25,8 @@ extern "C" {
 
 /* A refused call gives TAG_MODEL_REFUSED plus the refusal, by its number in the papers,
  * and leaves all that it was lent as it came; a refused tag_fresh or tag_open makes the
- * state's words zero, unless a number of words is wrong. */
+ * state's words zero, a refused tag_open_reader the reader's, unless a number of words is
+ * wrong. */
 #define TAG_MODEL_REFUSED UINT64_C(4294967296)
 
 /* The refusals of the calls below, by their numbers in the papers; tags.h has 1, 2, 3, 6,
@@ -124,15 +125,21 @@ uint64_t tag_whole(const uint64_t *state, size_t state_words);
  *
  * tag_write_image writes the image of a true memory to the front of the output and gives its
  * length. Refused 1, 2, 3, 9. tag_restore fills all of the memory from an image. Gives 0.
- * Refused 10, 11, 2. tag_record reads the record at place p of an image, which it does not
- * test: 0 at the end, else 1, and the record's TAG_RECORD_WORDS words are its leaf and the
- * place of its 64 bytes in the image. At the end they stay as they came. Refused 2, for
- * another number of words. */
+ * Refused 10, 11, 2. tag_open_reader tests an image, once for a whole walk. Gives 0, and
+ * the reader's TAG_READER_WORDS words are the length of its image and its place: all of the
+ * image, and 0. Refused 2, for another number of words, 10, 11. tag_record reads the record
+ * at place p of an image, which it does not test: 0 at the end, else 1, and the record's
+ * TAG_RECORD_WORDS words are its leaf and the place of its 64 bytes in the image; the next
+ * place is p + 1. At the end they stay as they came. Refused 2, for another number of
+ * words. */
+#define TAG_READER_WORDS 2
 #define TAG_RECORD_WORDS 2
 uint64_t tag_write_image(uint64_t n, const uint8_t *memory, size_t memory_length,
                          uint8_t *output, size_t output_length);
 uint64_t tag_restore(const uint8_t *image, size_t image_length, uint8_t *memory,
                      size_t memory_length);
+uint64_t tag_open_reader(const uint8_t *image, size_t image_length, uint64_t *reader,
+                         size_t reader_words);
 uint64_t tag_record(const uint8_t *image, size_t image_length, uint64_t p, uint64_t *record,
                     size_t record_words);
 

@@ -45,6 +45,10 @@ impl Slice {
         self.slot
     }
 
+    pub fn length(&self) -> usize {
+        self.length
+    }
+
     fn row(&self, what: u64) -> [u64; 4] {
         [what, self.slot, self.at as u64, self.length as u64]
     }

@@ -22,6 +22,7 @@ uint64_t call(uint64_t function, const struct argument *a)
     case 8: return tag_restore(BYTES(a[0]), BYTES(a[1]));
     case 9: return tag_record(BYTES(a[0]), a[1].number, WORDS(a[2]));
     case 10: return tag_run(WORDS(a[0]), BYTES(a[1]), BYTES(a[2]), WORDS(a[3]), WORDS(a[4]));
+    case 11: return tag_open_reader(BYTES(a[0]), WORDS(a[1]));
     default: no_function();
     }
 }

@@ -4,7 +4,7 @@ use crate::driver::Function;
 use std::collections::BTreeMap;
 
 /// Each call with its refusals, in its order.
-const REFUSALS: [(&str, &[u64]); 12] = [
+const REFUSALS: [(&str, &[u64]); 13] = [
     ("tag_fresh", &[1, 2]),
     ("tag_open", &[1, 2, 3]),
     ("tag_issue", &[4, 2, 5, 6, 7, 13]),
@@ -16,6 +16,7 @@ const REFUSALS: [(&str, &[u64]); 12] = [
     ("a call of tag_run", &[5, 6, 7, 8, 12, 13]),
     ("tag_write_image", &[1, 2, 3, 9]),
     ("tag_restore", &[10, 11, 2]),
+    ("tag_open_reader", &[2, 10, 11]),
     ("tag_record", &[2]),
 ];
 

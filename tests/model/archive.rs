@@ -135,6 +135,15 @@ pub fn record(image: &[u8], p: u64) -> Option<Record> {
     })
 }
 
+/// Opening a reader: its refusal, 10 or 11, 0 if none, its image and its place. A refused
+/// reader has an empty image and place 0.
+pub fn open_reader(image: &[u8]) -> (u64, &[u8], u64) {
+    match image_test(image) {
+        0 => (0, image, 0),
+        no => (no, &[], 0),
+    }
+}
+
 /// All records of an image, read one at a time from place 0 to the end.
 pub fn records(image: &[u8]) -> Vec<Record> {
     (0..).map_while(|p| record(image, p)).collect()

@@ -23,7 +23,7 @@ use Rattle.cache.proofs.Refusals.{step-refused}
 use Rattle.coding.specs.Words.{coded, decoded, trackersCoded, trackerCoded}
 use Rattle.coding.specs.Answer.{refusedBy, numberOf, answerCoded}
 use Rattle.coding.proofs.Inverse.{coded-decoded}
-use Rattle.harness.specs.Calls.{Done, backOf, begins, tagFresh, tagOpen, wordTests, called, tagIssue, tagDrain, stepTests, tagStep}
+use Rattle.harness.specs.Calls.{Done, numberGiven, begins, tagFresh, tagOpen, wordTests, called, tagIssue, tagDrain, stepTests, tagStep}
 
 -- the words and the bytes are as they came
 abbrev pub Same : Done → List ℕ → List ℕ → List ℕ → Type 0
@@ -34,14 +34,14 @@ abbrev Stays : Out → State → List ℕ → List ℕ → Type 0
 Stays o s bytes memory = (o .state ≡ s) × (o .bytes ≡ bytes) × (o .memory ≡ memory)
 
 -- a number of a refusal's size is a refusal's, where the write-backs are fewer
-back-refused : (s : Said) (t : Transfers) → t .back < refusedBy 0 → refusedBy 0 ≤ backOf s t → 0 < numberOf s
-back-refused ok t f h = absurd (omega arith)
-back-refused wait t f h = absurd (omega arith)
-back-refused moved t f h = absurd (omega arith)
-back-refused (read v k) t f h = absurd (omega arith)
-back-refused (done k) t f h = absurd (omega arith)
-back-refused (same k) t f h = absurd (omega arith)
-back-refused (no c) t f h = omega arith
+given-refused : (s : Said) (t : Transfers) → t .back < refusedBy 0 → refusedBy 0 ≤ numberGiven s t → 0 < numberOf s
+given-refused ok t f h = absurd (omega arith)
+given-refused wait t f h = absurd (omega arith)
+given-refused moved t f h = absurd (omega arith)
+given-refused (read v k) t f h = absurd (omega arith)
+given-refused (done k) t f h = absurd (omega arith)
+given-refused (same k) t f h = absurd (omega arith)
+given-refused (no c) t f h = omega arith
 
 -- of issue and drain, from the same of the rules' call
 module _ (f : State → Out) (w bytes memory : List ℕ) (few : (s : State) → f s .transfers .back < refusedBy 0)
@@ -50,7 +50,7 @@ module _ (f : State → Out) (w bytes memory : List ℕ) (few : (s : State) → 
   unfolding called
   called-same =
       unless-by _ _ (λ (d : Done). refusedBy 0 ≤ d .number → Same d w bytes memory)
-      (λ e h. let q = stays (decoded w) (back-refused (f (decoded w) .said) (f (decoded w) .transfers) (few (decoded w)) h) in
+      (λ e h. let q = stays (decoded w) (given-refused (f (decoded w) .said) (f (decoded w) .transfers) (few (decoded w)) h) in
       (ap coded (q .0) ∙ coded-decoded w (refusal-hold (wordTests w) refl e .1 .0), q .1, q .2))
       (λ p h. (refl, refl, refl))
 
@@ -150,7 +150,7 @@ module _ (f : ℕ → ℕ → ℕ → Out) (device w bytes memory : List ℕ) wh
   begins-same few stays =
       unless-by _ _ (λ (d : Done). refusedBy 0 ≤ d .number → ((d .words ≡ w) ⊎ (d .words ≡ replicate 132 0)) × (d .bytes ≡ bytes) × (d .memory ≡ memory))
       (λ e h. let o = f (getD device 0 0) (getD device 1 0) (getD device 2 0) in
-      let q = stays (getD device 0 0) (getD device 1 0) (getD device 2 0) (back-refused (o .said) (o .transfers) (few (getD device 0 0) (getD device 1 0) (getD device 2 0)) h) in (inr (ap coded (q .0) ∙ zero-words), q .1, q .2))
+      let q = stays (getD device 0 0) (getD device 1 0) (getD device 2 0) (given-refused (o .said) (o .transfers) (few (getD device 0 0) (getD device 1 0) (getD device 2 0)) h) in (inr (ap coded (q .0) ∙ zero-words), q .1, q .2))
       (λ p h. (inl refl, refl, refl))
 
 module _ (device w bytes memory : List ℕ) where

@@ -26,14 +26,14 @@ use Rattle.cache.specs.Seen.{unfit}
 use Rattle.cache.proofs.Refusals.{issue-unfit, issue-fit, issue-refused, fit-whole}
 use Rattle.coding.specs.Words.{stateWords, coded, decoded, codes}
 use Rattle.coding.specs.Answer.{refusedBy, numberOf, answerWords, answerCoded}
-use Rattle.harness.specs.Calls.{Done, backOf, done, refused, gives, stepGives, deviceWords, beginTests, begins, wordTests, called, accessOf, stepTests, tagStep, shownAt, tagShow, tagWhole}
+use Rattle.harness.specs.Calls.{Done, numberGiven, done, refused, gives, stepGives, deviceWords, beginTests, begins, wordTests, called, accessOf, stepTests, tagStep, shownAt, tagShow, tagWhole}
 
 -- the words that a call leaves where there are as many as a state has
 left-words : (w : List ℕ) {r : List ℕ} (v : List ℕ) → length w ≡ stateWords → r ≡ pick (eqb (length w) stateWords) v w → r ≡ v
 left-words w v e q = q ∙ rw (eq-eqb (length w) stateWords e)
 
 -- what a call gives, from what it did
-gives-is : (o : Out) (w : List ℕ) {k : ℕ} {r : List ℕ} → length w ≡ stateWords → k ≡ backOf (o .said) (o .transfers) → r ≡ pick (eqb (length w) stateWords) (coded (o .state)) w
+gives-is : (o : Out) (w : List ℕ) {k : ℕ} {r : List ℕ} → length w ≡ stateWords → k ≡ numberGiven (o .said) (o .transfers) → r ≡ pick (eqb (length w) stateWords) (coded (o .state)) w
     → done k r (o .bytes) (o .memory) ≡ gives o
 gives-is o w e p q = rw (p, left-words w (coded (o .state)) e q)
 
@@ -196,12 +196,12 @@ module _ (w : List ℕ) where
 -- what each kind of call leaves, from the promises of the functions that it calls
 module _ (o : Out) {k : ℕ} {r : List ℕ} where
   pub begins-does : (f : ℕ → ℕ → ℕ → Out) (device w bytes memory : List ℕ) → length device ≡ deviceWords → length w ≡ stateWords
-      → o ≡ f (getD device 0 0) (getD device 1 0) (getD device 2 0) → k ≡ backOf (o .said) (o .transfers) → r ≡ pick (eqb (length w) stateWords) (coded (o .state)) w
+      → o ≡ f (getD device 0 0) (getD device 1 0) (getD device 2 0) → k ≡ numberGiven (o .said) (o .transfers) → r ≡ pick (eqb (length w) stateWords) (coded (o .state)) w
       → done k r (o .bytes) (o .memory) ≡ begins f device w bytes memory
   begins-does f device w bytes memory d e q p l = gives-is o w e p l ∙ ap gives q ∙ sym (begins-is f device w bytes memory d e)
 
   module _ (u : State) (w : List ℕ) (e : length w ≡ stateWords) (c : codes w ≡ true) (s : u ≡ pick (codes w) (decoded w) zeroState) where
-    pub called-does : (f : State → Out) (bytes memory : List ℕ) → o ≡ f u → k ≡ backOf (o .said) (o .transfers) → r ≡ pick (eqb (length w) stateWords) (coded (o .state)) w
+    pub called-does : (f : State → Out) (bytes memory : List ℕ) → o ≡ f u → k ≡ numberGiven (o .said) (o .transfers) → r ≡ pick (eqb (length w) stateWords) (coded (o .state)) w
         → done k r (o .bytes) (o .memory) ≡ called f w bytes memory
     called-does f bytes memory q p l = gives-is o w e p l ∙ ap gives (q ∙ ap f (decoded-is w c s)) ∙ sym (called-is f w bytes memory (words-0 w e c))
 
@@ -223,8 +223,8 @@ refuses c w bytes memory e = rw e
 
 -- a refusal's number, or the write-backs
 module _ (s : Said) (t : Transfers) {c : ℕ} (e : c ≡ numberOf s) where
-  pub back-no : 0 < c → c ≡ backOf s t
-  back-no h = rw (← e, ne-eqb c 0 (λ z. absurd (omega arith))) refl
+  pub given-no : 0 < c → c ≡ numberGiven s t
+  given-no h = rw (← e, ne-eqb c 0 (λ z. absurd (omega arith))) refl
 
-  pub back-is : c ≡ 0 → t .back ≡ backOf s t
-  back-is z = rw (← e, eq-eqb c 0 z) refl
+  pub given-is : c ≡ 0 → t .back ≡ numberGiven s t
+  given-is z = rw (← e, eq-eqb c 0 z) refl

@@ -30,13 +30,13 @@ done number words bytes memory = record { number = number; words = words; bytes 
 abbrev pub refused : ℕ → List ℕ → List ℕ → List ℕ → Done
 refused c words bytes memory = done (refusedBy c) words bytes memory
 
--- a refusal's number, or the write-backs
-abbrev pub backOf : Said → Transfers → ℕ
-backOf s t = pick (eqb (numberOf s) 0) (t .back) (numberOf s)
+-- the number that a call gives: that of its refusal, or its write-backs
+abbrev pub numberGiven : Said → Transfers → ℕ
+numberGiven s t = pick (eqb (numberOf s) 0) (t .back) (numberOf s)
 
 -- what a call of the rules did, as words and a number: "from E4 on `tag_drain` gives its write-backs"; fresh, open and issue have none
 abbrev pub gives : Out → Done
-gives o = done (backOf (o .said) (o .transfers)) (coded (o .state)) (o .bytes) (o .memory)
+gives o = done (numberGiven (o .said) (o .transfers)) (coded (o .state)) (o .bytes) (o .memory)
 
 -- "`device` a slice of words, 3 of them: n, T, L"
 abbrev pub deviceWords : ℕ

@@ -14,7 +14,7 @@ ghost use Rattle.tracker.specs.Answer.{says};
 ghost use Rattle.cache.specs.Seen.{seen};
 ghost use Rattle.coding.specs.Words.{stateWords, coded};
 ghost use Rattle.coding.specs.Answer.{refusedBy};
-ghost use Rattle.harness.specs.Calls.{backOf, done, tagFresh, tagOpen, accessOf, tagIssue, tagDrain, tagStep, shownAt, tagShow, tagWhole};
+ghost use Rattle.harness.specs.Calls.{numberGiven, done, tagFresh, tagOpen, accessOf, tagIssue, tagDrain, tagStep, shownAt, tagShow, tagWhole};
 
 // The words of a device: n, T, L.
 pub const DEVICE_WORDS: usize = 3;
@@ -34,7 +34,7 @@ pub fn refused(c: u8) -> u64
 
 // The words of the state that a call hands back, and the number that it gives.
 fn leave(r: Out, state: &mut [u64]) -> u64
-    ensures { λ k. ⌜ (k ≡ backOf (says (r .answer)) (r .transfers)) × (now (state .exit) ≡ pick (eqb (length (now (state .entry))) stateWords) (coded (seen (r .state))) (now (state .entry))) ⌝ }
+    ensures { λ k. ⌜ (k ≡ numberGiven (says (r .answer)) (r .transfers)) × (now (state .exit) ≡ pick (eqb (length (now (state .entry))) stateWords) (coded (seen (r .state))) (now (state .entry))) ⌝ }
 {
     let left = r.state;
     coding::encode(left, state);

@@ -26,11 +26,11 @@ module _ (image : List ℕ) (p : ℕ) where
   unfolding readingAt atEnd either
   is-record h g = rw (lt-leb (wholeBlocks image) (1 + p / 7) h, lt-leb (countOf (imageBlock image (1 + p / 7))) (p % 7) g)
 
--- by whether a record was found: where its 64 bytes are, and that the image has them
+-- what was found: the image has its 64 bytes, and they are the record's
 module _ (image : List ℕ) (p : ℕ) (r : Reading) (e : r ≡ readingAt image p) where
-  at-end : (b : Bool) → atEnd image p ≡ b → readingAt image p ≡ pick b (theEnd p) (theRecord image p)
+  at-end : (b : Bool) → atEnd image p ≡ b → r ≡ pick b (theEnd p) (theRecord image p)
   unfolding readingAt
-  at-end b q = rw q
+  at-end b q = rw (e, q)
 
   content-by : (b : Bool) → atEnd image p ≡ b → contentAt image p ≡ pick b [] (part image (contentPlace p) 64)
   unfolding contentAt
@@ -44,20 +44,18 @@ module _ (image : List ℕ) (p : ℕ) (r : Reading) (e : r ≡ readingAt image p
       by-blocks true h g = let z : _≡_ {A = ℕ} 0 1 = cc in absurd (omega arith)
       by-blocks false h g = let k : 1 + p / 7 < length image / 512 = leb-false _ _ h in omega arith
 
-  pub content-found : r .found ≡ true → (r .start ≡ contentPlace p) × (contentPlace p + 64 ≤ length image) × (part image (contentPlace p) 64 ≡ contentAt image p)
-  content-found f = by-end (atEnd image p) refl
+  pub content-room : r .found ≡ true → r .start + 64 ≤ length image
+  content-room f = by-end (atEnd image p) refl
     where
-      by-end : (b : Bool) → atEnd image p ≡ b → (r .start ≡ contentPlace p) × (contentPlace p + 64 ≤ length image) × (part image (contentPlace p) 64 ≡ contentAt image p)
+      by-end : (b : Bool) → atEnd image p ≡ b → r .start + 64 ≤ length image
       by-end true q =
-          let t : false ≡ true = sym (ap (λ (x : Reading). x .found) (e ∙ at-end true q)) ∙ f in
+          let t : false ≡ true = sym (ap (λ (x : Reading). x .found) (at-end true q)) ∙ f in
           let z : _≡_ {A = ℕ} 0 1 = cc in absurd (omega arith)
-      by-end false q = (ap (λ (x : Reading). x .start) (e ∙ at-end false q), room q, sym (content-by false q))
+      by-end false q = let s : r .start ≡ contentPlace p = ap (λ (x : Reading). x .start) (at-end false q) in let h : contentPlace p + 64 ≤ length image = room q in omega (arith, s, h)
 
-  pub content-none : r .found ≡ false → contentAt image p ≡ []
-  content-none f = by-end (atEnd image p) refl
+  pub content-is : pick (r .found) (part image (r .start) 64) [] ≡ contentAt image p
+  content-is = by-end (atEnd image p) refl
     where
-      by-end : (b : Bool) → atEnd image p ≡ b → contentAt image p ≡ []
-      by-end true q = content-by true q
-      by-end false q =
-          let t : true ≡ false = sym (ap (λ (x : Reading). x .found) (e ∙ at-end false q)) ∙ f in
-          let z : _≡_ {A = ℕ} 0 1 = cc in absurd (omega arith)
+      by-end : (b : Bool) → atEnd image p ≡ b → pick (r .found) (part image (r .start) 64) [] ≡ contentAt image p
+      by-end true q = ap (λ (x : Reading). pick (x .found) (part image (x .start) 64) []) (at-end true q) ∙ sym (content-by true q)
+      by-end false q = ap (λ (x : Reading). pick (x .found) (part image (x .start) 64) []) (at-end false q) ∙ sym (content-by false q)

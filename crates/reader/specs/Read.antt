@@ -3,10 +3,13 @@ use mathlib.Core.List.{List, []}
 use mathlib.Core.Bool.{Bool, true, false}
 use Prim.Native.Nat.{ℕ, _+_, _*_, _/_, _%_}
 use lib.Dec.{leb}
+use lib.ListN.{length}
 use Rattle.laws.specs.Choice.{pick, either}
 use Rattle.laws.specs.Bytes.{part}
-use Rattle.image.specs.Test.{wholeBlocks, imageBlock, countOf, recordAt}
+use Rattle.image.specs.Test.{imageTest, wholeBlocks, imageBlock, countOf, recordAt}
+use Rattle.image.specs.Calls.{openedImage}
 use Rattle.reader.specs.declared.Reading.{Reading}
+use Rattle.reader.specs.declared.Opened.{Opened}
 
 -- "Where the image has no such whole block, or its count there is not above p mod 7"
 unfoldable pub atEnd : List ℕ → ℕ → Bool
@@ -30,3 +33,7 @@ readingAt image p = pick (atEnd image p) (theEnd p) (theRecord image p)
 -- "the 64 bytes" of record p, as a part of the image; at the end an empty one
 unfoldable pub contentAt : List ℕ → ℕ → List ℕ
 contentAt image p = pick (atEnd image p) [] (part image (contentPlace p) 64)
+
+-- "opening a reader 10, 11"; "A refused reader has an empty image and place 0"
+unfoldable pub openedReader : List ℕ → Opened
+openedReader image = record { refusal = imageTest image; length = length (openedImage image); place = 0 }

@@ -2,12 +2,16 @@
 // No public function has a `requires`: an image need not be tested, and a place is any number.
 use geometry::Geometry;
 ghost use mathlib.Core.Path.{_≡_};
-ghost use Prim.Native.Nat.{_+_, _*_, _/_, _%_, _<_};
+ghost use mathlib.Core.Bool.{true};
+ghost use Prim.Native.Nat.{_+_, _≤_};
 ghost use mathlib.Core.List.{[]};
+ghost use lib.ListN.{length};
+ghost use Rattle.laws.specs.Choice.{pick};
+ghost use Rattle.laws.specs.Bytes.{part};
 ghost use Rattle.laws.specs.Refusal.{unless};
 ghost use Rattle.image.specs.Test.{imageTest};
 ghost use Rattle.image.specs.Calls.{openedImage};
-ghost use Rattle.reader.specs.Read.{readingAt, contentAt};
+ghost use Rattle.reader.specs.Read.{readingAt, contentAt, openedReader};
 
 // A lent image with the number of its records that were read, and what its opening was refused with: 0, 10 or 11.
 pub struct Reader<'a> {
@@ -24,11 +28,19 @@ pub struct Reading {
     pub next: u64,
 }
 
-// The next record of a reader: its leaf, and its 64 bytes as a part of the image; or, not found, the end, with an empty part.
+// The next record of a reader: its leaf, where its 64 bytes begin in the image, and these as a part of it; or, not found, the end, with an empty part.
 pub struct Record<'a> {
     pub found: bool,
     pub leaf: u64,
+    pub start: u64,
     pub content: &'a [u8],
+}
+
+// What opening an image gives: the refusal, the length of the reader's image, and its place.
+pub struct Opened {
+    pub refusal: u64,
+    pub length: u64,
+    pub place: u64,
 }
 
 // What stands at a place of an image.
@@ -92,42 +104,59 @@ pub fn open<'a>(image: &'a [u8]) -> Reader<'a>
     }
 }
 
-// The 64 bytes of the record at a place of an image, as a part of it; an empty part at the end.
-fn content<'a>(image: &'a [u8], place: u64) -> &'a [u8]
-    ensures { λ r. ⌜ now r ≡ contentAt (now (image .entry)) place ⌝ }
+// The 64 bytes of a record that was found, as a part of the image; an empty part at the end.
+fn content<'a>(image: &'a [u8], found: bool, start: u64) -> &'a [u8]
+    requires { ⌜ (found ≡ true → start + 64 ≤ length (now image)) ⌝ }
+    ensures { λ r. ⌜ now r ≡ pick found (part (now (image .entry)) start 64) [] ⌝ }
 {
-    let found = read_at(image, place);
-    if found.found {
-        let start = found.start as usize;
-        return &image[start..start + Geometry::BLOCK_LEN];
+    if found {
+        let at = start as usize;
+        return &image[at..at + Geometry::BLOCK_LEN];
     }
     &image[0..0]
 }
 
 // The next record, and the reader moves on; at the end it stays as it was.
 pub fn advance<'s, 'a>(r: &'s mut Reader<'a>) -> Record<'a>
-    ensures { λ s. ⌜ (s .found ≡ readingAt (now (now (r .entry) .image)) (now (r .entry) .place) .found) × (s .leaf ≡ readingAt (now (now (r .entry) .image)) (now (r .entry) .place) .leaf) × (now (s .content) ≡ contentAt (now (now (r .entry) .image)) (now (r .entry) .place)) × (now (r .exit) .image ≡ now (r .entry) .image) × (now (r .exit) .place ≡ readingAt (now (now (r .entry) .image)) (now (r .entry) .place) .next) × (now (r .exit) .refusal ≡ now (r .entry) .refusal) ⌝ }
+    ensures { λ s. ⌜ (s .found ≡ readingAt (now (now (r .entry) .image)) (now (r .entry) .place) .found) × (s .leaf ≡ readingAt (now (now (r .entry) .image)) (now (r .entry) .place) .leaf) × (s .start ≡ readingAt (now (now (r .entry) .image)) (now (r .entry) .place) .start) × (now (s .content) ≡ contentAt (now (now (r .entry) .image)) (now (r .entry) .place)) × (now (r .exit) .image ≡ now (r .entry) .image) × (now (r .exit) .place ≡ readingAt (now (now (r .entry) .image)) (now (r .entry) .place) .next) × (now (r .exit) .refusal ≡ now (r .entry) .refusal) ⌝ }
 {
-    let bytes = content(r.image, r.place);
     let found = read_at(r.image, r.place);
+    let bytes = content(r.image, found.found, found.start);
     r.place = found.next;
     Record {
         found: found.found,
         leaf: found.leaf,
+        start: found.start,
         content: bytes,
     }
 }
 
-// What stands next in a reader that is handed over.
-pub fn peek<'a>(r: Reader<'a>) -> Reading
-    ensures { λ s. ⌜ s ≡ readingAt (now (r .entry .image)) (r .entry .place) ⌝ }
+// Opening a reader, by what it then is: callers hand over plain bytes.
+pub fn opening(image: &[u8]) -> Opened
+    ensures { λ r. ⌜ r ≡ openedReader (now (image .entry)) ⌝ }
 {
-    read_at(r.image, r.place)
+    let reader = open(image);
+    Opened {
+        refusal: reader.refusal,
+        length: reader.image.len() as u64,
+        place: reader.place,
+    }
 }
 
-// The first record of an image, by a reader that is opened here: callers hand over plain bytes.
-pub fn first(image: &[u8]) -> Reading
-    ensures { λ r. ⌜ r ≡ readingAt (openedImage (now (image .entry))) 0 ⌝ }
+// The record that a reader at a place of an image finds, and the place that it then has: callers hand over plain bytes.
+pub fn record_at(image: &[u8], place: u64) -> Reading
+    ensures { λ r. ⌜ r ≡ readingAt (now (image .entry)) place ⌝ }
 {
-    peek(open(image))
+    let mut reader = Reader {
+        image,
+        place,
+        refusal: 0,
+    };
+    let found = advance(&mut reader);
+    Reading {
+        found: found.found,
+        leaf: found.leaf,
+        start: found.start,
+        next: reader.place,
+    }
 }

@@ -1,4 +1,5 @@
 pub mod Ways
 pub mod Going
 pub mod Runs
+pub mod Answers
 pub mod One

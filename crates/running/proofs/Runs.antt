@@ -1,4 +1,4 @@
--- A run of lent calls is a run of the rules: what it passes on is what the rules' calls pass on, in order, without those of another form; and each call's answer stands at its place.
+-- A run of lent calls is a run of the rules: what it passes on is what the rules' calls pass on, in order, without those of another form.
 use mathlib.Core.Path.{_≡_, refl, ap, sym, _∙_}
 use mathlib.Core.List.{List, [], _∷_, _++_}
 use Prim.Native.Nat.{ℕ, zero, suc, _*_}

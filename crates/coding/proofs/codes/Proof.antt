@@ -34,7 +34,13 @@ both-requires-3 c κs = search needs
 
 returns-2 : tie.Need-returns-2
 unfolding codes
-returns-2 c = rw (c .both3 .ensures, c .before .both2 .ensures, c .before .before .codes-trackers .ensures, c .before .before .before .codes-lines .ensures, c .before .before .before .before .both .ensures) (sym (both-when _ _ (eq-eqb _ _ (c .before .before .before .before .before .before .before .if1 .left))))
+returns-2 c =
+    let at-both2 = c .before in
+    let at-codes-trackers = at-both2 .before in
+    let at-codes-lines = at-codes-trackers .before in
+    let at-both = at-codes-lines .before in
+    let at-if1 = at-both .before .before .before in
+    rw (c .both3 .ensures, at-both2 .both2 .ensures, at-codes-trackers .codes-trackers .ensures, at-codes-lines .codes-lines .ensures, at-both .both .ensures) (sym (both-when _ _ (eq-eqb _ _ (at-if1 .if1 .left))))
 
 pub codes-spec : {M : Type 1} → statement M
 codes-spec =

@@ -30,7 +30,10 @@ shared-slice-read-if1 : tie.Need-shared-slice-read-if1 Inv-loop μ-loop
 shared-slice-read-if1 c = omega arith
 
 returns : tie.Need-returns Inv-loop μ-loop
-returns c = sym (all-fails _ 64 (c .before .before .before .loop .i) (omega arith) (le-ltb (getD (c .before .before .before .before .args .words .now) (4 + c .before .before .before .loop .i) 0) 4294967296 (omega arith)))
+returns c =
+    let at-loop = c .before .before .before in
+    let at-start = at-loop .before in
+    sym (all-fails _ 64 (at-loop .loop .i) (omega arith) (le-ltb (getD (at-start .args .words .now) (4 + at-loop .loop .i) 0) 4294967296 (omega arith)))
 
 add-i : tie.Need-add-i Inv-loop μ-loop
 add-i c = omega arith
@@ -39,10 +42,15 @@ loop-less : tie.Need-loop-less Inv-loop μ-loop
 loop-less c = omega arith
 
 loop-again : tie.Need-loop-again Inv-loop μ-loop
-loop-again c = (omega arith, all-more _ (c .before .before .before .loop .i) (c .before .before .before .loop .inv .1) (lt-ltb (getD (c .before .before .before .before .args .words .now) (4 + c .before .before .before .loop .i) 0) 4294967296 (omega arith)))
+loop-again c =
+    let at-loop = c .before .before .before in
+    let at-start = at-loop .before in
+    (omega arith, all-more _ (at-loop .loop .i) (at-loop .loop .inv .1) (lt-ltb (getD (at-start .args .words .now) (4 + at-loop .loop .i) 0) 4294967296 (omega arith)))
 
 returns-2 : tie.Need-returns-2 Inv-loop μ-loop
-returns-2 c = let e : c .before .loop .i ≡ 64 = omega arith in sym (rw e at (c .before .loop .inv .1))
+returns-2 c =
+    let at-loop = c .before in
+    let e : at-loop .loop .i ≡ 64 = omega arith in sym (rw e at (at-loop .loop .inv .1))
 
 pub codes-lines-spec : {M : Type 1} → statement M
 codes-lines-spec =

@@ -15,6 +15,10 @@ Inv-loop words x₀ x = (x ≤ 8) × (all (λ x. codesTracker words (trackerPlac
 abbrev μ-loop : tie.MeasureT-loop
 μ-loop words x₀ x = 8 - x
 
+-- the places that are spoken of, each from the one after it
+abbrev before-codes-tracker : tie.After-codes-tracker Inv-loop μ-loop → tie.At-loop Inv-loop μ-loop
+before-codes-tracker c = c .before .before
+
 loop-holds : tie.Need-loop-holds Inv-loop μ-loop
 loop-holds c = (omega arith, all-zero _)
 
@@ -34,13 +38,21 @@ loop-less : tie.Need-loop-less Inv-loop μ-loop
 loop-less c = omega arith
 
 loop-again : tie.Need-loop-again Inv-loop μ-loop
-loop-again c = (omega arith, all-more _ (c .before .before .before .loop .x) (c .before .before .before .loop .inv .1) (sym (c .before .codes-tracker .ensures) ∙ c .if1 .taken))
+loop-again c =
+    let at-codes-tracker = c .before in
+    let at-loop = before-codes-tracker at-codes-tracker in
+    (omega arith, all-more _ (at-loop .loop .x) (at-loop .loop .inv .1) (sym (at-codes-tracker .codes-tracker .ensures) ∙ c .if1 .taken))
 
 returns : tie.Need-returns Inv-loop μ-loop
-returns c = sym (all-fails _ 8 (c .before .before .before .loop .x) (omega arith) (sym (c .before .codes-tracker .ensures) ∙ c .if1 .left))
+returns c =
+    let at-codes-tracker = c .before in
+    let at-loop = before-codes-tracker at-codes-tracker in
+    sym (all-fails _ 8 (at-loop .loop .x) (omega arith) (sym (at-codes-tracker .codes-tracker .ensures) ∙ c .if1 .left))
 
 returns-2 : tie.Need-returns-2 Inv-loop μ-loop
-returns-2 c = let e : c .before .loop .x ≡ 8 = omega arith in sym (rw e at (c .before .loop .inv .1))
+returns-2 c =
+    let at-loop = c .before in
+    let e : at-loop .loop .x ≡ 8 = omega arith in sym (rw e at (at-loop .loop .inv .1))
 
 pub codes-trackers-spec : {M : Type 1} → statement M
 codes-trackers-spec =

@@ -8,6 +8,10 @@ use Rattle.coding.proofs.Turns.{encoded}
 use Rattle.coding.proofs.encode.Statement.{statement}
 use Rattle.coding.proofs.encode.Tie as tie
 
+-- a state has 64 lines
+lines-long : (at-start : tie.Start) → length (at-start .args .state .lines) ≡ 64
+lines-long at-start = search needs
+
 returns : tie.Need-returns
 returns c = rw (ne-eqb _ _ (c .if1 .taken)) refl
 
@@ -24,11 +28,16 @@ same-length : tie.Need-same-length
 same-length c = search needs
 
 returns-2 : tie.Need-returns-2
-returns-2 c = let a = c .before .before .before .before .before .before .before .before .before .before .before .before .before .before .before .before .before .args in
-    let e = c .before .before .before .before .before .before .before .before .before .before .before .before .before .before .before .if1 .left in
-    let p : length (a .state .lines) ≡ 64 = search needs in
-    let q = c .before .before .put-trackers .ensures .1 in
-    rw (eq-eqb _ _ e) (c .before .before .put-trackers .ensures .0 ∙ rw (c .before .before .before .before .before .before .before .put-lines .ensures, c .before .before .before .before .before .before .before .before .before .before .before .before .put-shape .ensures) (encoded (seen (a .state)) p q (a .words .now) e))
+returns-2 c =
+    let at-put-trackers = c .before .before in
+    let at-put-lines = at-put-trackers .before .before .before .before .before in
+    let at-put-shape = at-put-lines .before .before .before .before .before in
+    let at-if1 = at-put-shape .before .before .before in
+    let at-start = at-if1 .before .before in
+    let a = at-start .args in
+    let e = at-if1 .if1 .left in
+    let q = at-put-trackers .put-trackers .ensures .1 in
+    rw (eq-eqb _ _ e) (at-put-trackers .put-trackers .ensures .0 ∙ rw (at-put-lines .put-lines .ensures, at-put-shape .put-shape .ensures) (encoded (seen (a .state)) (lines-long at-start) q (a .words .now) e))
 
 pub encode-spec : {M : Type 1} → statement M
 encode-spec =

@@ -26,10 +26,15 @@ mul-lines : tie.Need-mul-lines Inv-loop μ-loop
 mul-lines c = omega arith
 
 shared-slice-read-lines : tie.Need-shared-slice-read-lines Inv-loop μ-loop
-shared-slice-read-lines c = omega (arith, coding (c .before .before .before .args .words .now) (c .before .before .before .pre) .size)
+shared-slice-read-lines c =
+    let at-start = c .before .before .before in
+    omega (arith, coding (at-start .args .words .now) (at-start .pre) .size)
 
 cast-lines : tie.Need-cast-lines Inv-loop μ-loop
-cast-lines c = omega (arith, coding (c .before .before .before .args .words .now) (c .before .before .before .pre) .lines (c .before .before .loop .i) (omega arith))
+cast-lines c =
+    let at-loop = c .before .before in
+    let at-start = at-loop .before in
+    omega (arith, coding (at-start .args .words .now) (at-start .pre) .lines (at-loop .loop .i) (omega arith))
 
 mul-lines-2 : tie.Need-mul-lines-2 Inv-loop μ-loop
 mul-lines-2 c = omega arith
@@ -44,15 +49,21 @@ loop-less : tie.Need-loop-less Inv-loop μ-loop
 loop-less c = omega arith
 
 loop-again : tie.Need-loop-again Inv-loop μ-loop
-loop-again c = let w = c .before .before .before .args .words .now in
-    let q = coding w (c .before .before .before .pre) .size in
-    (omega arith, simp length-set (omega arith), rw (c .before .before .loop .inv .2) (line-read (replicate 64 0) w refl (omega arith) (c .before .before .loop .i) (omega arith)))
+loop-again c =
+    let at-loop = c .before .before in
+    let at-start = at-loop .before in
+    let w = at-start .args .words .now in
+    let q = coding w (at-start .pre) .size in
+    (omega arith, simp length-set (omega arith), rw (at-loop .loop .inv .2) (line-read (replicate 64 0) w refl (omega arith) (at-loop .loop .i) (omega arith)))
 
 returns : tie.Need-returns Inv-loop μ-loop
-returns c = let w = c .before .before .args .words .now in
-    let q = coding w (c .before .before .pre) .size in
-    let e : c .before .loop .i ≡ 64 = omega arith in
-    rw e at (c .before .loop .inv .2) ∙ lines-read (replicate 64 0) w refl (omega arith)
+returns c =
+    let at-loop = c .before in
+    let at-start = at-loop .before in
+    let w = at-start .args .words .now in
+    let q = coding w (at-start .pre) .size in
+    let e : at-loop .loop .i ≡ 64 = omega arith in
+    rw e at (at-loop .loop .inv .2) ∙ lines-read (replicate 64 0) w refl (omega arith)
 
 pub lines-in-spec : {M : Type 1} → statement M
 lines-in-spec =

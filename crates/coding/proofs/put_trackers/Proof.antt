@@ -17,9 +17,15 @@ Inv-loop words₀ trackers x₀ words x = (x ≤ 8) × (length words ≡ length 
 abbrev μ-loop : tie.MeasureT-loop
 μ-loop words₀ trackers x₀ words x = 8 - x
 
+-- the places that are spoken of, each from the one after it
+abbrev before-loop : tie.At-loop Inv-loop μ-loop → tie.Start Inv-loop μ-loop
+before-loop c = c .before .before
+
 loop-holds : tie.Need-loop-holds Inv-loop μ-loop
 unfolding trackersCoded
-loop-holds c = (omega arith, refl, sym (splice-none (c .before .args .words .now) 68))
+loop-holds c =
+    let at-start = c .before in
+    (omega arith, refl, sym (splice-none (at-start .args .words .now) 68))
 
 mul-tracker : tie.Need-mul-tracker Inv-loop μ-loop
 mul-tracker c = omega arith
@@ -43,18 +49,27 @@ loop-less : tie.Need-loop-less Inv-loop μ-loop
 loop-less c = omega arith
 
 loop-again : tie.Need-loop-again Inv-loop μ-loop
-loop-again c = let a = c .before .before .before .before .before .before .before .before .args in
+loop-again c =
+    let at-put-tracker = c .before .before in
+    let at-loop = at-put-tracker .before .before .before .before in
+    let at-start = before-loop at-loop in
+    let a = at-start .args in
     let k : length (a .t2) ≡ 8 = search needs in
-    let l = c .before .before .before .before .before .before .loop in
-    (omega arith, search needs, c .before .before .put-tracker .ensures ∙ rw (l .inv .2) (tracker-written (a .words .now) (a .t2) (c .before .before .before .before .before .before .before .before .pre) k (l .x) (omega arith)))
+    let l = at-loop .loop in
+    (omega arith, search needs, at-put-tracker .put-tracker .ensures ∙ rw (l .inv .2) (tracker-written (a .words .now) (a .t2) (at-start .pre) k (l .x) (omega arith)))
 
 same-length : tie.Need-same-length Inv-loop μ-loop
-same-length c = c .before .loop .inv .1
+same-length c =
+    let at-loop = c .before in
+    at-loop .loop .inv .1
 
 returns : tie.Need-returns Inv-loop μ-loop
-returns c = let a = c .before .before .before .args in
+returns c =
+    let at-loop = c .before in
+    let at-start = before-loop at-loop in
+    let a = at-start .args in
     let k : length (a .t2) ≡ 8 = search needs in
-    (c .before .loop .inv .2 ∙ trackers-written (a .words .now) (a .t2) (c .before .before .before .pre) k (c .before .loop .x) (omega arith), k)
+    (at-loop .loop .inv .2 ∙ trackers-written (a .words .now) (a .t2) (at-start .pre) k (at-loop .loop .x) (omega arith), k)
 
 pub put-trackers-spec : {M : Type 1} → statement M
 put-trackers-spec =

@@ -7,22 +7,34 @@ use Rattle.coding.proofs.shape_in.Statement.{statement}
 use Rattle.coding.proofs.shape_in.Tie as tie
 
 shared-slice-read-t3 : tie.Need-shared-slice-read-t3
-shared-slice-read-t3 c = let q = coding (c .before .args .words .now) (c .before .pre) .size in omega arith
+shared-slice-read-t3 c =
+    let at-start = c .before in
+    let q = coding (at-start .args .words .now) (at-start .pre) .size in omega arith
 
 cast-t4 : tie.Need-cast-t4
-cast-t4 c = omega (arith, coding (c .before .args .words .now) (c .before .pre) .n)
+cast-t4 c =
+    let at-start = c .before in
+    omega (arith, coding (at-start .args .words .now) (at-start .pre) .n)
 
 shared-slice-read-t6 : tie.Need-shared-slice-read-t6
-shared-slice-read-t6 c = let q = coding (c .before .before .args .words .now) (c .before .before .pre) .size in omega arith
+shared-slice-read-t6 c =
+    let at-start = c .before .before in
+    let q = coding (at-start .args .words .now) (at-start .pre) .size in omega arith
 
 cast-t7 : tie.Need-cast-t7
-cast-t7 c = omega (arith, coding (c .before .before .args .words .now) (c .before .before .pre) .t)
+cast-t7 c =
+    let at-start = c .before .before in
+    omega (arith, coding (at-start .args .words .now) (at-start .pre) .t)
 
 shared-slice-read-t9 : tie.Need-shared-slice-read-t9
-shared-slice-read-t9 c = let q = coding (c .before .before .before .args .words .now) (c .before .before .before .pre) .size in omega arith
+shared-slice-read-t9 c =
+    let at-start = c .before .before .before in
+    let q = coding (at-start .args .words .now) (at-start .pre) .size in omega arith
 
 shared-slice-read-t12 : tie.Need-shared-slice-read-t12
-shared-slice-read-t12 c = let q = coding (c .before .before .before .before .args .words .now) (c .before .before .before .before .pre) .size in omega arith
+shared-slice-read-t12 c =
+    let at-start = c .before .before .before .before in
+    let q = coding (at-start .args .words .now) (at-start .pre) .size in omega arith
 
 returns : tie.Need-returns
 unfolding shapeIn

@@ -16,6 +16,10 @@ Inv-loop words trackers₀ x₀ trackers x = (x ≤ 8) × (length trackers₀ �
 abbrev μ-loop : tie.MeasureT-loop
 μ-loop words trackers₀ x₀ trackers x = 8 - x
 
+-- the places that are spoken of, each from the one after it
+abbrev before-rest : tie.After-rest Inv-loop μ-loop → tie.Start Inv-loop μ-loop
+before-rest c = c .before .before
+
 rest-requires : tie.Need-rest-requires Inv-loop μ-loop
 rest-requires c κs = search needs
 
@@ -30,7 +34,10 @@ add-tracker-in : tie.Need-add-tracker-in Inv-loop μ-loop
 add-tracker-in c = omega arith
 
 tracker-in-requires : tie.Need-tracker-in-requires Inv-loop μ-loop
-tracker-in-requires c κs = (omega (arith, coding (c .before .before .before .before .args .words .now) (c .before .before .before .before .pre) .size), coding (c .before .before .before .before .args .words .now) (c .before .before .before .before .pre) .trackers (c .before .loop .x) (omega arith))
+tracker-in-requires c κs =
+    let at-loop = c .before in
+    let at-start = before-rest (at-loop .before) in
+    (omega (arith, coding (at-start .args .words .now) (at-start .pre) .size), coding (at-start .args .words .now) (at-start .pre) .trackers (at-loop .loop .x) (omega arith))
 
 mul-trackers : tie.Need-mul-trackers Inv-loop μ-loop
 mul-trackers c = omega arith
@@ -45,14 +52,22 @@ loop-less : tie.Need-loop-less Inv-loop μ-loop
 loop-less c = omega arith
 
 loop-again : tie.Need-loop-again Inv-loop μ-loop
-loop-again c = let w = c .before .before .before .before .before .args .words .now in
-    let k = c .before .before .loop in
-    (omega arith, refl, simp length-set (omega arith), rw (k .inv .3, c .tracker-in .ensures) (tracker-read w (replicate 8 (c .before .before .before .rest .result)) (k .x) (omega arith)))
+loop-again c =
+    let at-loop = c .before .before in
+    let at-rest = at-loop .before in
+    let at-start = before-rest at-rest in
+    let w = at-start .args .words .now in
+    let k = at-loop .loop in
+    (omega arith, refl, simp length-set (omega arith), rw (k .inv .3, c .tracker-in .ensures) (tracker-read w (replicate 8 (at-rest .rest .result)) (k .x) (omega arith)))
 
 returns : tie.Need-returns Inv-loop μ-loop
-returns c = let w = c .before .before .before .before .args .words .now in
-    let e : c .before .loop .x ≡ 8 = omega arith in
-    rw e at (c .before .loop .inv .3) ∙ trackers-read w (replicate 8 (c .before .before .rest .result)) 8 (omega arith)
+returns c =
+    let at-loop = c .before in
+    let at-rest = at-loop .before in
+    let at-start = before-rest at-rest in
+    let w = at-start .args .words .now in
+    let e : at-loop .loop .x ≡ 8 = omega arith in
+    rw e at (at-loop .loop .inv .3) ∙ trackers-read w (replicate 8 (at-rest .rest .result)) 8 (omega arith)
 
 pub trackers-in-spec : {M : Type 1} → statement M
 trackers-in-spec =

@@ -8,13 +8,23 @@ use native.Mathlib.Omega.{arith}
 use Rattle.harness.proofs.drain.Statement.{statement}
 use Rattle.harness.proofs.drain.Tie as tie
 
+-- the places that are spoken of, each from the one after it
+abbrev before-if1 : tie.Else1 → tie.Start
+before-if1 c = c .before .before .before .before
+
+abbrev before-decode : tie.After-decode → tie.Else1
+before-decode c = c .before .before
+
 refused-requires : tie.Need-refused-requires
 refused-requires c κs = search needs
 
 returns : tie.Need-returns
-returns c = let a = c .before .before .before .before .before .args in
+returns c =
+    let at-if1 = c .before in
+    let at-start = at-if1 .before .before .before .before in
+    let a = at-start .args in
     refuses 2 (a .state .now) (a .bytes .now) (a .memory .now) (c .refused .ensures)
-    ∙ sym (called-no (λ s. drain s (a .bytes .now) (a .memory .now)) (a .state .now) (a .bytes .now) (a .memory .now) 2 (words-2 (a .state .now) (c .before .if1 .taken)) (omega arith))
+    ∙ sym (called-no (λ s. drain s (a .bytes .now) (a .memory .now)) (a .state .now) (a .bytes .now) (a .memory .now) 2 (words-2 (a .state .now) (at-if1 .if1 .taken)) (omega arith))
 
 decode-requires : tie.Need-decode-requires
 decode-requires c κs = search needs
@@ -26,9 +36,14 @@ same-length : tie.Need-same-length
 same-length c = search needs
 
 returns-2 : tie.Need-returns-2
-returns-2 c = let a = c .before .before .before .before .before .before .before .before .before .args in
+returns-2 c =
+    let at-if2 = c .before in
+    let at-decode = at-if2 .before .before in
+    let at-if1 = before-decode at-decode in
+    let at-start = before-if1 at-if1 in
+    let a = at-start .args in
     refuses 4 (a .state .now) (a .bytes .now) (a .memory .now) (c .refused2 .ensures)
-    ∙ sym (called-no (λ s. drain s (a .bytes .now) (a .memory .now)) (a .state .now) (a .bytes .now) (a .memory .now) 4 (words-4 (a .state .now) (c .before .before .before .before .before .if1 .left) (sym (c .before .before .before .decode .ensures .0) ∙ not-true _ (c .before .if2 .taken))) (omega arith))
+    ∙ sym (called-no (λ s. drain s (a .bytes .now) (a .memory .now)) (a .state .now) (a .bytes .now) (a .memory .now) 4 (words-4 (a .state .now) (at-if1 .if1 .left) (sym (at-decode .decode .ensures .0) ∙ not-true _ (at-if2 .if2 .taken))) (omega arith))
 
 drain-requires : tie.Need-drain-requires
 drain-requires c κs = search needs
@@ -43,9 +58,16 @@ same-length-3 : tie.Need-same-length-3
 same-length-3 c = search needs
 
 returns-3 : tie.Need-returns-3
-returns-3 c = let a = c .before .before .before .before .before .before .before .before .before .before .before .before .before .before .before .before .before .args in
-    called-does _ _ (a .state .now) (c .before .before .before .before .before .before .before .before .before .before .before .before .before .if1 .left) (sym (c .before .before .before .before .before .before .before .before .before .before .before .decode .ensures .0) ∙ not-false _ (c .before .before .before .before .before .before .before .before .before .if2 .left)) (c .before .before .before .before .before .before .before .before .before .before .before .decode .ensures .1)
-    (λ s. drain s (a .bytes .now) (a .memory .now)) (a .bytes .now) (a .memory .now) (c .before .before .before .before .before .before .drain .ensures) (c .before .before .leave .ensures .0) (c .before .before .leave .ensures .1)
+returns-3 c =
+    let at-leave = c .before .before in
+    let at-drain = at-leave .before .before .before .before in
+    let at-if2 = at-drain .before .before .before in
+    let at-decode = at-if2 .before .before in
+    let at-if1 = before-decode at-decode in
+    let at-start = before-if1 at-if1 in
+    let a = at-start .args in
+    called-does _ _ (a .state .now) (at-if1 .if1 .left) (sym (at-decode .decode .ensures .0) ∙ not-false _ (at-if2 .if2 .left)) (at-decode .decode .ensures .1)
+    (λ s. drain s (a .bytes .now) (a .memory .now)) (a .bytes .now) (a .memory .now) (at-drain .drain .ensures) (at-leave .leave .ensures .0) (at-leave .leave .ensures .1)
 
 pub drain-spec : {M : Type 1} → statement M
 drain-spec =

@@ -2,7 +2,7 @@
 use borrow.Author.Needs.{needs}
 use native.Mathlib.Omega.{arith}
 use Rattle.tracker.specs.Answer.{says}
-use Rattle.harness.proofs.Ways.{back-no, back-is}
+use Rattle.harness.proofs.Ways.{given-no, given-is}
 use Rattle.harness.proofs.leave.Statement.{statement}
 use Rattle.harness.proofs.leave.Tie as tie
 
@@ -17,7 +17,7 @@ same-length c = search needs
 
 returns : tie.Need-returns
 returns c = let at-number = c .before in let at-code = at-number .before .before .before in let a = at-code .before .before .before .before .args in
-    (back-no (says (a .r .answer)) (a .r .transfers) (at-number .number-of .ensures) (omega arith), at-code .encode .ensures)
+    (given-no (says (a .r .answer)) (a .r .transfers) (at-number .number-of .ensures) (omega arith), at-code .encode .ensures)
 
 cast-result : tie.Need-cast-result
 cast-result c = search needs
@@ -27,7 +27,7 @@ same-length-2 c = search needs
 
 returns-2 : tie.Need-returns-2
 returns-2 c = let at-number = c .before .before .before in let at-code = at-number .before .before .before in let a = at-code .before .before .before .before .args in
-    (back-is (says (a .r .answer)) (a .r .transfers) (at-number .number-of .ensures) (omega arith), at-code .encode .ensures)
+    (given-is (says (a .r .answer)) (a .r .transfers) (at-number .number-of .ensures) (omega arith), at-code .encode .ensures)
 
 pub leave-spec : {M : Type 1} → statement M
 leave-spec =

@@ -1,7 +1,9 @@
--- `shown_at` meets its contract, way by way.
+-- `shown_at` meets its contract, way by way: refused; in a line; under bit 0; in memory.
 use borrow.Author.Needs.{needs}
 use mathlib.Core.Path.{_≡_, sym, ap, _∙_}
+use Prim.Native.Nat.{_*_, _≤_, _<_}
 use lib.ListN.{length}
+use Rattle.geometry.specs.TagMemory.{mostLeaves, mostLines, memoryLength}
 use Rattle.rules.specs.Calls.{showNo}
 use Rattle.cache.specs.Seen.{seen}
 use Rattle.cache.proofs.Refusals.{show-in}
@@ -10,6 +12,27 @@ use native.Mathlib.Omega.{arith}
 use Rattle.harness.proofs.shown_at.Statement.{statement}
 use Rattle.harness.proofs.shown_at.Tie as tie
 
+-- the places that are spoken of, each from the one after it
+abbrev before-show-refusal : tie.After-show-refusal → tie.Start
+before-show-refusal c = c .before .before .before
+
+abbrev before-line-of : tie.After-line-of → tie.Else1
+before-line-of c = c .before .before .before .before
+
+abbrev before-show : tie.After-show → tie.After-line-of
+before-show c = c .before .before
+
+-- not refused: the state, what is lent and the leaf, and what is known of them
+module _ (c : tie.Else1) where
+  abbrev at-start : tie.Start
+  at-start = before-show-refusal (c .before)
+
+  accepted : showNo (seen (at-start .args .t1)) (at-start .args .bytes .now) (at-start .args .memory .now) (at-start .args .k) ≡ 0
+  accepted = omega (arith, c .before .show-refusal .ensures)
+
+  within : (at-start .args .k < at-start .args .t1 .shape .n) × (at-start .args .t1 .shape .n ≤ mostLeaves) × (at-start .args .t1 .shape .l ≤ mostLines) × (length (at-start .args .bytes .now) ≡ 64 * at-start .args .t1 .shape .l) × (length (at-start .args .memory .now) ≡ memoryLength (at-start .args .t1 .shape .n))
+  within = show-in (seen (at-start .args .t1)) (at-start .args .bytes .now) (at-start .args .memory .now) (at-start .args .k) accepted
+
 show-refusal-requires : tie.Need-show-refusal-requires
 show-refusal-requires c κs = search needs
 
@@ -17,58 +40,58 @@ refused-requires : tie.Need-refused-requires
 refused-requires c κs = search needs
 
 returns : tie.Need-returns
-returns c = c .refused .ensures ∙ shown-no (seen (c .before .before .before .before .before .args .t1)) (c .before .before .before .before .before .args .bytes .now) (c .before .before .before .before .before .args .memory .now) (c .before .before .before .before .before .args .k) (c .before .before .show-refusal .result) (c .before .before .show-refusal .ensures) (c .before .if1 .taken)
+returns c =
+    let at-if1 = c .before in
+    let at-show-refusal = at-if1 .before in
+    let a = before-show-refusal at-show-refusal .args in
+    c .refused .ensures ∙ shown-no (seen (a .t1)) (a .bytes .now) (a .memory .now) (a .k) (at-show-refusal .show-refusal .result) (at-show-refusal .show-refusal .ensures) (at-if1 .if1 .taken)
 
 cast-line-of : tie.Need-cast-line-of
-cast-line-of c = let e : showNo (seen (c .before .before .before .before .before .before .before .args .t1)) (c .before .before .before .before .before .before .before .args .bytes .now) (c .before .before .before .before .before .before .before .args .memory .now) (c .before .before .before .before .before .before .before .args .k) ≡ 0 = omega (arith, c .before .before .before .before .show-refusal .ensures) in
-    let i = show-in (seen (c .before .before .before .before .before .before .before .args .t1)) (c .before .before .before .before .before .before .before .args .bytes .now) (c .before .before .before .before .before .before .before .args .memory .now) (c .before .before .before .before .before .before .before .args .k) e in
-    omega (arith, i)
+cast-line-of c = let at-if1 = c .before .before .before in omega (arith, within at-if1)
 
 line-of-requires : tie.Need-line-of-requires
 line-of-requires c κs = search needs
 
 mul-result : tie.Need-mul-result
-mul-result c = let e : showNo (seen (c .before .before .before .before .before .before .before .before .before .args .t1)) (c .before .before .before .before .before .before .before .before .before .args .bytes .now) (c .before .before .before .before .before .before .before .before .before .args .memory .now) (c .before .before .before .before .before .before .before .before .before .args .k) ≡ 0 = omega (arith, c .before .before .before .before .before .before .show-refusal .ensures) in
-    let i = show-in (seen (c .before .before .before .before .before .before .before .before .before .args .t1)) (c .before .before .before .before .before .before .before .before .before .args .bytes .now) (c .before .before .before .before .before .before .before .before .before .args .memory .now) (c .before .before .before .before .before .before .before .before .before .args .k) e in
-    omega (arith, i)
+mul-result c = let at-if1 = before-line-of (c .before) in omega (arith, within at-if1)
 
 add-result : tie.Need-add-result
-add-result c = let e : showNo (seen (c .before .before .before .before .before .before .before .before .before .args .t1)) (c .before .before .before .before .before .before .before .before .before .args .bytes .now) (c .before .before .before .before .before .before .before .before .before .args .memory .now) (c .before .before .before .before .before .before .before .before .before .args .k) ≡ 0 = omega (arith, c .before .before .before .before .before .before .show-refusal .ensures) in
-    let i = show-in (seen (c .before .before .before .before .before .before .before .before .before .args .t1)) (c .before .before .before .before .before .before .before .before .before .args .bytes .now) (c .before .before .before .before .before .before .before .before .before .args .memory .now) (c .before .before .before .before .before .before .before .before .before .args .k) e in
-    omega (arith, i)
+add-result c = let at-if1 = before-line-of (c .before) in omega (arith, within at-if1)
 
 returns-2 : tie.Need-returns-2
-returns-2 c = let e : showNo (seen (c .before .before .before .before .before .before .before .before .before .args .t1)) (c .before .before .before .before .before .before .before .before .before .args .bytes .now) (c .before .before .before .before .before .before .before .before .before .args .memory .now) (c .before .before .before .before .before .before .before .before .before .args .k) ≡ 0 = omega (arith, c .before .before .before .before .before .before .show-refusal .ensures) in
-    let i = show-in (seen (c .before .before .before .before .before .before .before .before .before .args .t1)) (c .before .before .before .before .before .before .before .before .before .args .bytes .now) (c .before .before .before .before .before .before .before .before .before .args .memory .now) (c .before .before .before .before .before .before .before .before .before .args .k) e in
-    shown-line (seen (c .before .before .before .before .before .before .before .before .before .args .t1)) (c .before .before .before .before .before .before .before .before .before .args .bytes .now) (c .before .before .before .before .before .before .before .before .before .args .memory .now) (c .before .before .before .before .before .before .before .before .before .args .k) e (c .before .line-of .result) (c .before .line-of .ensures) (c .if2 .taken)
+returns-2 c =
+    let at-line-of = c .before in
+    let at-if1 = before-line-of at-line-of in
+    let a = at-start at-if1 .args in
+    shown-line (seen (a .t1)) (a .bytes .now) (a .memory .now) (a .k) (accepted at-if1) (at-line-of .line-of .result) (at-line-of .line-of .ensures) (c .if2 .taken)
 
 show-requires : tie.Need-show-requires
 show-requires c κs = search needs
 
 returns-3 : tie.Need-returns-3
-returns-3 c = let e : showNo (seen (c .before .before .before .before .before .before .before .before .before .before .before .args .t1)) (c .before .before .before .before .before .before .before .before .before .before .before .args .bytes .now) (c .before .before .before .before .before .before .before .before .before .before .before .args .memory .now) (c .before .before .before .before .before .before .before .before .before .before .before .args .k) ≡ 0 = omega (arith, c .before .before .before .before .before .before .before .before .show-refusal .ensures) in
-    let i = show-in (seen (c .before .before .before .before .before .before .before .before .before .before .before .args .t1)) (c .before .before .before .before .before .before .before .before .before .before .before .args .bytes .now) (c .before .before .before .before .before .before .before .before .before .before .before .args .memory .now) (c .before .before .before .before .before .before .before .before .before .before .before .args .k) e in
-    shown-empty (seen (c .before .before .before .before .before .before .before .before .before .before .before .args .t1)) (c .before .before .before .before .before .before .before .before .before .before .before .args .bytes .now) (c .before .before .before .before .before .before .before .before .before .before .before .args .memory .now) (c .before .before .before .before .before .before .before .before .before .before .before .args .k) e (omega (arith, c .before .before .before .line-of .ensures)) (ap length (sym (c .before .show .ensures)) ∙ c .if3 .taken)
+returns-3 c =
+    let at-show = c .before in
+    let at-line-of = before-show at-show in
+    let at-if1 = before-line-of at-line-of in
+    let a = at-start at-if1 .args in
+    shown-empty (seen (a .t1)) (a .bytes .now) (a .memory .now) (a .k) (accepted at-if1) (omega (arith, at-line-of .line-of .ensures)) (ap length (sym (at-show .show .ensures)) ∙ c .if3 .taken)
 
 mul-result-2 : tie.Need-mul-result-2
-mul-result-2 c = let e : showNo (seen (c .before .before .before .before .before .before .before .before .before .before .before .args .t1)) (c .before .before .before .before .before .before .before .before .before .before .before .args .bytes .now) (c .before .before .before .before .before .before .before .before .before .before .before .args .memory .now) (c .before .before .before .before .before .before .before .before .before .before .before .args .k) ≡ 0 = omega (arith, c .before .before .before .before .before .before .before .before .show-refusal .ensures) in
-    let i = show-in (seen (c .before .before .before .before .before .before .before .before .before .before .before .args .t1)) (c .before .before .before .before .before .before .before .before .before .before .before .args .bytes .now) (c .before .before .before .before .before .before .before .before .before .before .before .args .memory .now) (c .before .before .before .before .before .before .before .before .before .before .before .args .k) e in
-    omega (arith, i)
+mul-result-2 c = let at-if1 = before-line-of (before-show (c .before)) in omega (arith, within at-if1)
 
 add-result-2 : tie.Need-add-result-2
-add-result-2 c = let e : showNo (seen (c .before .before .before .before .before .before .before .before .before .before .before .args .t1)) (c .before .before .before .before .before .before .before .before .before .before .before .args .bytes .now) (c .before .before .before .before .before .before .before .before .before .before .before .args .memory .now) (c .before .before .before .before .before .before .before .before .before .before .before .args .k) ≡ 0 = omega (arith, c .before .before .before .before .before .before .before .before .show-refusal .ensures) in
-    let i = show-in (seen (c .before .before .before .before .before .before .before .before .before .before .before .args .t1)) (c .before .before .before .before .before .before .before .before .before .before .before .args .bytes .now) (c .before .before .before .before .before .before .before .before .before .before .before .args .memory .now) (c .before .before .before .before .before .before .before .before .before .before .before .args .k) e in
-    omega (arith, i)
+add-result-2 c = let at-if1 = before-line-of (before-show (c .before)) in omega (arith, within at-if1)
 
 add-result-3 : tie.Need-add-result-3
-add-result-3 c = let e : showNo (seen (c .before .before .before .before .before .before .before .before .before .before .before .args .t1)) (c .before .before .before .before .before .before .before .before .before .before .before .args .bytes .now) (c .before .before .before .before .before .before .before .before .before .before .before .args .memory .now) (c .before .before .before .before .before .before .before .before .before .before .before .args .k) ≡ 0 = omega (arith, c .before .before .before .before .before .before .before .before .show-refusal .ensures) in
-    let i = show-in (seen (c .before .before .before .before .before .before .before .before .before .before .before .args .t1)) (c .before .before .before .before .before .before .before .before .before .before .before .args .bytes .now) (c .before .before .before .before .before .before .before .before .before .before .before .args .memory .now) (c .before .before .before .before .before .before .before .before .before .before .before .args .k) e in
-    omega (arith, i)
+add-result-3 c = let at-if1 = before-line-of (before-show (c .before)) in omega (arith, within at-if1)
 
 returns-4 : tie.Need-returns-4
-returns-4 c = let e : showNo (seen (c .before .before .before .before .before .before .before .before .before .before .before .args .t1)) (c .before .before .before .before .before .before .before .before .before .before .before .args .bytes .now) (c .before .before .before .before .before .before .before .before .before .before .before .args .memory .now) (c .before .before .before .before .before .before .before .before .before .before .before .args .k) ≡ 0 = omega (arith, c .before .before .before .before .before .before .before .before .show-refusal .ensures) in
-    let i = show-in (seen (c .before .before .before .before .before .before .before .before .before .before .before .args .t1)) (c .before .before .before .before .before .before .before .before .before .before .before .args .bytes .now) (c .before .before .before .before .before .before .before .before .before .before .before .args .memory .now) (c .before .before .before .before .before .before .before .before .before .before .before .args .k) e in
-    shown-memory (seen (c .before .before .before .before .before .before .before .before .before .before .before .args .t1)) (c .before .before .before .before .before .before .before .before .before .before .before .args .bytes .now) (c .before .before .before .before .before .before .before .before .before .before .before .args .memory .now) (c .before .before .before .before .before .before .before .before .before .before .before .args .k) e (omega (arith, c .before .before .before .line-of .ensures)) (λ q. c .if3 .left (ap length (c .before .show .ensures) ∙ q))
+returns-4 c =
+    let at-show = c .before in
+    let at-line-of = before-show at-show in
+    let at-if1 = before-line-of at-line-of in
+    let a = at-start at-if1 .args in
+    shown-memory (seen (a .t1)) (a .bytes .now) (a .memory .now) (a .k) (accepted at-if1) (omega (arith, at-line-of .line-of .ensures)) (λ q. c .if3 .left (ap length (at-show .show .ensures) ∙ q))
 
 pub shown-at-spec : {M : Type 1} → statement M
 shown-at-spec =

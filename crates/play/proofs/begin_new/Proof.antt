@@ -13,7 +13,11 @@ same-length : tie.Need-same-length
 same-length c = search needs
 
 returns : tie.Need-returns
-returns c = c .before .before .begin-refused .ensures ∙ sym (begins-large (c .before .before .before .before .before .before .before .args .bytes .now) (c .before .before .before .before .before .before .before .args .memory .now) (c .before .before .before .before .before .before .before .args .n) (c .before .before .before .before .before .before .before .args .l) (c .before .before .before .before .before .before .before .args .t) (omega arith))
+returns c =
+    let at-begin-refused = c .before .before in
+    let at-start = at-begin-refused .before .before .before .before .before in
+    let a = at-start .args in
+    at-begin-refused .begin-refused .ensures ∙ sym (begins-large (a .bytes .now) (a .memory .now) (a .n) (a .l) (a .t) (omega arith))
 
 fresh-requires : tie.Need-fresh-requires
 fresh-requires c κs = search needs
@@ -22,7 +26,11 @@ same-length-2 : tie.Need-same-length-2
 same-length-2 c = search needs
 
 returns-2 : tie.Need-returns-2
-returns-2 c = c .before .before .fresh .ensures ∙ sym (begins-small (c .before .before .before .before .before .before .before .args .bytes .now) (c .before .before .before .before .before .before .before .args .memory .now) (c .before .before .before .before .before .before .before .args .n) (c .before .before .before .before .before .before .before .args .l) (c .before .before .before .before .before .before .before .args .t) (omega arith))
+returns-2 c =
+    let at-fresh = c .before .before in
+    let at-start = at-fresh .before .before .before .before .before in
+    let a = at-start .args in
+    at-fresh .fresh .ensures ∙ sym (begins-small (a .bytes .now) (a .memory .now) (a .n) (a .l) (a .t) (omega arith))
 
 pub begin-new-spec : {M : Type 1} → statement M
 begin-new-spec =
