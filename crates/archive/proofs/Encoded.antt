@@ -17,14 +17,14 @@ use Rattle.laws.proofs.Splice.{lt-or-ge, length-part′}
 use Rattle.geometry.specs.TagMemory.{inLimits}
 use Rattle.block.specs.Block.{allZero}
 use Rattle.sums.specs.Check.{checkOf, checkRight}
-use Rattle.image.specs.Encode.{Form, Sized, Record, none, recordBytes, recordsBytes, headFront, headRest, headOf, blockFront, blockWith, blockOf, next7, recordBlocks, blocksFor, encode}
-use Rattle.image.specs.Test.{wholeBlocks, imageBlock, numberOf, kindOf, versionOf, leavesOf, recordedOf, countOf, recordIn, recordAt, unusedZero, headSound, countRight, blockSound, soundAt, recordCount, goodRecord, leavesIn, recordedIn, checksRight, same}
-use Rattle.image.specs.Calls.{recordsIn}
-use Rattle.image.proofs.Sound.{sound-head, sound-block, sound-count, count-bounds, count-full, records-none, records-by}
-use Rattle.image.proofs.Rules.{Accepted, accepted-fits}
-use Rattle.image.proofs.Records.{length-recordsTo, recordsTo-at, next-few, next-full}
+use Rattle.form.specs.Encode.{Form, Sized, Record, none, recordBytes, recordsBytes, headFront, headRest, headOf, blockFront, blockWith, blockOf, next7, recordBlocks, blocksFor, encode}
+use Rattle.form.specs.Test.{wholeBlocks, imageBlock, numberOf, kindOf, versionOf, leavesOf, recordedOf, countOf, recordIn, recordAt, unusedZero, headSound, countRight, blockSound, soundAt, recordCount, goodRecord, leavesIn, recordedIn, checksRight, same}
+use Rattle.form.specs.Calls.{recordsIn}
+use Rattle.form.proofs.Sound.{sound-head, sound-block, sound-count, count-bounds, count-full, records-none, records-by}
+use Rattle.form.proofs.Rules.{Accepted, accepted-fits}
+use Rattle.form.proofs.Records.{length-recordsTo, recordsTo-at, next-few, next-full}
 use Rattle.laws.proofs.Parts.{part-add, part-front, part-none, take-part, Bytes-part, number-back}
-use Rattle.image.proofs.Rows.{zero-zeros, same-is}
+use Rattle.form.proofs.Rows.{zero-zeros, same-is}
 use Rattle.sums.proofs.Right.{right-sealed}
 use Rattle.archive.specs.Theorems.{listed, Good}
 use Rattle.archive.proofs.Written.{good-same}

@@ -5,9 +5,9 @@ use Prim.Native.Nat.{ℕ, _+_, _*_}
 use lib.ListN.{length}
 use Rattle.laws.specs.Bytes.{part, bytes}
 use Rattle.sums.specs.Check.{sumA, sumB, checkOf}
-use Rattle.image.specs.Encode.{version1, version2, Record, Sized, headOf, blocksFor, encode}
-use Rattle.image.proofs.Records.{length-encode}
-use Rattle.image.proofs.Sound.{fit-2}
+use Rattle.form.specs.Encode.{version1, version2, Record, Sized, headOf, blocksFor, encode}
+use Rattle.form.proofs.Records.{length-encode}
+use Rattle.form.proofs.Sound.{fit-2}
 
 module _ (n : ℕ) (rs : List Record) (s : Sized rs) where
   blocks : (m : ℕ) → length rs ≡ m → length (encode version2 n rs) ≡ 512 * (1 + blocksFor m)

@@ -6,11 +6,11 @@ use Prim.Native.Nat.{ℕ, zero, suc, _+_, _*_, _/_, _%_, _-_, _≤_, _<_}
 use native.Mathlib.Omega.{arith}
 use Rattle.laws.specs.Bytes.{part}
 use Rattle.laws.proofs.Splice.{lt-or-ge}
-use Rattle.image.specs.Encode.{Form, next7}
-use Rattle.image.specs.Test.{wholeBlocks, imageBlock, countOf, recordAt, recordedIn}
+use Rattle.form.specs.Encode.{Form, next7}
+use Rattle.form.specs.Test.{wholeBlocks, imageBlock, countOf, recordAt, recordedIn}
 use Rattle.laws.proofs.Parts.{part-part}
-use Rattle.image.proofs.Rules.{Accepted, accepted-fits}
-use Rattle.image.proofs.Records.{next-few}
+use Rattle.form.proofs.Rules.{Accepted, accepted-fits}
+use Rattle.form.proofs.Records.{next-few}
 use Rattle.reader.specs.declared.Reading.{Reading}
 use Rattle.reader.specs.Read.{contentPlace, theEnd, theRecord, readingAt}
 use Rattle.reader.proofs.Place.{past-blocks, past-count, is-record}

@@ -27,11 +27,11 @@ use Rattle.block.proofs.BitsOf.{putBit-is, bitAt-zero, bitAt-putBit-same, bitAt
 use Rattle.memory.specs.PlainReading.{leafBit}
 use Rattle.memory.specs.True.{blockAt, isTrue}
 use Rattle.memory.proofs.Truth.{isTrue-at, isTrue-all, trueAt-0, trueAt-1}
-use Rattle.image.specs.Encode.{Record, none, Sized, recordOf, recordsBelow, recordsOf}
-use Rattle.image.specs.Test.{lowest, goodAbove, goodRecord}
-use Rattle.image.specs.Calls.{putRecord, filled, memoryOf}
+use Rattle.form.specs.Encode.{Record, none, Sized, recordOf, recordsBelow, recordsOf}
+use Rattle.form.specs.Test.{lowest, goodAbove, goodRecord}
+use Rattle.form.specs.Calls.{putRecord, filled, memoryOf}
 use Rattle.laws.proofs.Choice.{both-true, true-or-false, no-not}
-use Rattle.image.proofs.Records.{Marked, marked, marked-is, records-sized, length-below, length-rises, below-none, below-take, below-skip}
+use Rattle.form.proofs.Records.{Marked, marked, marked-is, records-sized, length-below, length-rises, below-none, below-take, below-skip}
 use Rattle.archive.specs.Theorems.{listed, Good}
 use Rattle.archive.proofs.Written.{leaf-above, leaf-below, leaf-some}
 

@@ -22,11 +22,11 @@ use Rattle.memory.specs.True.{blockAt, isTrue}
 use Rattle.memory.proofs.Truth.{leafBit-lt}
 use Rattle.memory.proofs.Reading.{plainGroup-0, plainGroup-1, refused-6}
 use Rattle.memory.proofs.Reading.{accepted as reading-accepted}
-use Rattle.image.specs.Encode.{Form, Fit, Record, none, recordsBelow, recordsOf, encode, imageOf}
-use Rattle.image.specs.Test.{formOf, leavesIn, recordedIn, recordAt, testBy, imageTest}
-use Rattle.image.specs.Calls.{writingRefusal, writingAnswer, written, recordsIn, memoryOf, restoringTests, restoringRefusal, restored}
-use Rattle.image.proofs.Rules.{Accepted, accepted}
-use Rattle.image.proofs.Records.{Marked, marked, marked-is, below-at, length-below, length-take, length-rises, length-recordsTo, recordsTo-at}
+use Rattle.form.specs.Encode.{Form, Fit, Record, none, recordsBelow, recordsOf, encode, imageOf}
+use Rattle.form.specs.Test.{formOf, leavesIn, recordedIn, recordAt, testBy, imageTest}
+use Rattle.form.specs.Calls.{writingRefusal, writingAnswer, written, recordsIn, memoryOf, restoringTests, restoringRefusal, restored}
+use Rattle.form.proofs.Rules.{Accepted, accepted}
+use Rattle.form.proofs.Records.{Marked, marked, marked-is, below-at, length-below, length-take, length-rises, length-recordsTo, recordsTo-at}
 use Rattle.reader.specs.Read.{theEnd}
 use Rattle.archive.specs.Theorems.{listed, Good, TrueImage, readAfter}
 use Rattle.archive.proofs.Written.{encoding-accepted, leaves-are, recorded-are, record-is}

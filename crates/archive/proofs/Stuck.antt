@@ -19,10 +19,10 @@ use Rattle.block.specs.Block.{allZero}
 use Rattle.sums.specs.Check.{word, sumA, sumB, checkOf, checkRight}
 use Rattle.sums.proofs.Words.{sumA-tells, modulus-new}
 use Rattle.sums.proofs.Right.{right-is, not-first}
-use Rattle.image.specs.Encode.{version1, Record, Sized, recordsBytes, headOf, blockWith, next7, recordBlocks, encode}
-use Rattle.image.specs.Test.{wholeBlocks, imageBlock, versionIn, formOf, lowest, goodAbove, goodRecord, checksRight, imageTest}
-use Rattle.image.proofs.Sound.{form-modulus}
-use Rattle.image.proofs.Rules.{Accepted, accepted, wrong-check}
+use Rattle.form.specs.Encode.{version1, Record, Sized, recordsBytes, headOf, blockWith, next7, recordBlocks, encode}
+use Rattle.form.specs.Test.{wholeBlocks, imageBlock, versionIn, formOf, lowest, goodAbove, goodRecord, checksRight, imageTest}
+use Rattle.form.proofs.Sound.{form-modulus}
+use Rattle.form.proofs.Rules.{Accepted, accepted, wrong-check}
 use Rattle.archive.specs.Theorems.{listed, Good, withWord}
 use Rattle.archive.proofs.Versions.{old-encoding-accepted}
 

@@ -16,9 +16,9 @@ use Rattle.laws.proofs.Scan.{all-at}
 use Rattle.geometry.specs.TagMemory.{inLimits}
 use Rattle.geometry.proofs.Limits.{inLimits-most}
 use Rattle.block.proofs.Zero.{allZero-at}
-use Rattle.image.specs.Test.{wholeBlocks, imageBlock, numberOf, kindOf, versionOf, leavesOf, versionIn, leavesIn, recordedIn, countOf, recordIn, recordAt, recordCount, unusedZero, countRight, blockSound, soundAt, goodRecord, checksRight, formOf, imageTest}
-use Rattle.image.proofs.Sound.{sound-head, sound-block, sound-count, count-full, head-by-form, form-modulus, records-fit}
-use Rattle.image.proofs.Rules.{Accepted, accepted, lowest-more, wrong-check-10}
+use Rattle.form.specs.Test.{wholeBlocks, imageBlock, numberOf, kindOf, versionOf, leavesOf, versionIn, leavesIn, recordedIn, countOf, recordIn, recordAt, recordCount, unusedZero, countRight, blockSound, soundAt, goodRecord, checksRight, formOf, imageTest}
+use Rattle.form.proofs.Sound.{sound-head, sound-block, sound-count, count-full, head-by-form, form-modulus, records-fit}
+use Rattle.form.proofs.Rules.{Accepted, accepted, lowest-more, wrong-check-10}
 use Rattle.archive.proofs.PlainSums.{bound-b, head-sums, block-sum, same-low, many-recorded}
 use Rattle.archive.proofs.Stuck.{two-bytes, long, right-at, room, same-long, kept-in, new-word, kept-word, other-long, refused}
 use Rattle.archive.proofs.Written.{leaf-above, leaf-below}

@@ -10,12 +10,12 @@ use Rattle.laws.specs.Bytes.{Bytes}
 use Rattle.geometry.specs.TagMemory.{inLimits, memoryLength}
 use Rattle.memory.specs.PlainReading.{plainReading}
 use Rattle.memory.specs.True.{isTrue}
-use Rattle.image.specs.Encode.{Form, Fit, version1, version2, formFor, Record, recordsOf, encode, imageOf, oldImageOf}
-use Rattle.image.specs.Test.{versionIn, formOf, testBy, imageTest}
+use Rattle.form.specs.Encode.{Form, Fit, version1, version2, formFor, Record, recordsOf, encode, imageOf, oldImageOf}
+use Rattle.form.specs.Test.{versionIn, formOf, testBy, imageTest}
 use Rattle.laws.proofs.Refusal.{refusal-0}
-use Rattle.image.specs.Calls.{writingTests, writingRefusal, writingAnswer, written, restored}
-use Rattle.image.proofs.Sound.{form-old, form-new, fit-1, fit-2}
-use Rattle.image.proofs.Records.{length-below}
+use Rattle.form.specs.Calls.{writingTests, writingRefusal, writingAnswer, written, restored}
+use Rattle.form.proofs.Sound.{form-old, form-new, fit-1, fit-2}
+use Rattle.form.proofs.Records.{length-below}
 use Rattle.archive.specs.Theorems.{Good, TrueImage}
 use Rattle.archive.proofs.Written.{version-is, encoding-accepted}
 use Rattle.archive.proofs.Restored.{true-records-good}

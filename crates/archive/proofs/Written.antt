@@ -18,14 +18,14 @@ use Rattle.geometry.specs.TagMemory.{inLimits}
 use Rattle.geometry.proofs.Limits.{inLimits-most}
 use Rattle.block.specs.Block.{allZero}
 use Rattle.sums.specs.Check.{checkOf, checkRight}
-use Rattle.image.specs.Encode.{Form, Fit, Sized, Record, none, recordBytes, recordsBytes, headFront, headRest, headOf, blockFront, blockWith, blockOf, next7, recordBlocks, blocksFor, encode}
-use Rattle.image.specs.Test.{wholeBlocks, imageBlock, numberOf, kindOf, versionOf, leavesOf, recordedOf, countOf, recordIn, recordAt, unusedZero, headSound, countRight, blockSound, soundAt, recordCount, lowest, goodAbove, goodRecord, versionIn, leavesIn, recordedIn, checksRight, testBy, same}
+use Rattle.form.specs.Encode.{Form, Fit, Sized, Record, none, recordBytes, recordsBytes, headFront, headRest, headOf, blockFront, blockWith, blockOf, next7, recordBlocks, blocksFor, encode}
+use Rattle.form.specs.Test.{wholeBlocks, imageBlock, numberOf, kindOf, versionOf, leavesOf, recordedOf, countOf, recordIn, recordAt, unusedZero, headSound, countRight, blockSound, soundAt, recordCount, lowest, goodAbove, goodRecord, versionIn, leavesIn, recordedIn, checksRight, testBy, same}
 use Rattle.laws.proofs.Parts.{piece, part-left, part-right, part-part, number, numberAt-part}
-use Rattle.image.proofs.Sound.{head-by, block-by, sound-head, sound-block, count-last, count-full, records-none, records-by}
-use Rattle.image.proofs.Rules.{is-accepted, good-is, good-above, good-below, good-some}
-use Rattle.image.proofs.Records.{length-headFront, length-rest, length-headed, length-head, length-blockFront, length-records, length-record, length-payload, length-block, length-blocks, length-encode, next-few, next-full, next-bounds}
+use Rattle.form.proofs.Sound.{head-by, block-by, sound-head, sound-block, count-last, count-full, records-none, records-by}
+use Rattle.form.proofs.Rules.{is-accepted, good-is, good-above, good-below, good-some}
+use Rattle.form.proofs.Records.{length-headFront, length-rest, length-headed, length-head, length-blockFront, length-records, length-record, length-payload, length-block, length-blocks, length-encode, next-few, next-full, next-bounds}
 use Rattle.archive.specs.Theorems.{listed, Good}
-use Rattle.image.proofs.Rows.{zeros-zero, same-self}
+use Rattle.form.proofs.Rows.{zeros-zero, same-self}
 use Rattle.sums.proofs.Right.{sealed-right}
 
 head-flat : (A B X N L Z C : List ℕ) → ((A ++ (B ++ (X ++ (N ++ L)))) ++ Z) ++ C ≡ A ++ (B ++ (X ++ (N ++ (L ++ (Z ++ C)))))

@@ -7,10 +7,10 @@ use lib.ListN.{length, getD}
 use Rattle.laws.specs.Scan.{all}
 use Rattle.geometry.specs.TagMemory.{inLimits, memoryLength}
 use Rattle.memory.specs.True.{isTrue}
-use Rattle.image.specs.Encode.{Form, Record, none, Sized, recordsOf, encode}
+use Rattle.form.specs.Encode.{Form, Record, none, Sized, recordsOf, encode}
 use Rattle.laws.specs.Bytes.{splice, Bytes}
 use Rattle.sums.specs.Check.{word}
-use Rattle.image.specs.Test.{wholeBlocks, imageBlock, goodRecord, imageTest}
+use Rattle.form.specs.Test.{wholeBlocks, imageBlock, goodRecord, imageTest}
 use Rattle.reader.specs.declared.Reading.{Reading}
 use Rattle.reader.specs.Read.{readingAt}
 

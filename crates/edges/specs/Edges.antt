@@ -12,7 +12,7 @@ use Rattle.tracker.specs.Tracker.{readOf, writeOf}
 use Rattle.tracker.specs.Answer.{ok, moved, read, done, no}
 use Rattle.rules.specs.Calls.{fresh, issue}
 use Rattle.rules.specs.Run.{issues, steps, drains, kept, answers}
-use Rattle.image.specs.Encode.{version1, version2, Record, Sized, headOf, encode}
+use Rattle.form.specs.Encode.{version1, version2, Record, Sized, headOf, encode}
 
 pub record Edges : Type 0 where
   -- "n = 0 and 262,145 give 1; n = 1 and 262,144 pass"

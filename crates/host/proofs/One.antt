@@ -6,7 +6,7 @@ use Rattle.memory.specs.PlainReading.{plainReading}
 use Rattle.memory.proofs.One.{plain-reading-one}
 use Rattle.tagged.specs.Tagged.{between, betweenAsTrue, groupNumber, leavesNumber}
 use Rattle.tagged.proofs.One.{first-tagged-one, tagged-leaves-one, first-tagged-as-true-one, tagged-leaves-as-true-one}
-use Rattle.image.specs.Test.{imageTest}
+use Rattle.form.specs.Test.{imageTest}
 
 pub tag-plain-read-one : (n : ℕ) (m : List ℕ) (g : ℕ) {r s : ℕ} → r ≡ plainReading n m g → s ≡ plainReading n m g → r ≡ s
 tag-plain-read-one = plain-reading-one

@@ -2,7 +2,7 @@
 ghost use mathlib.Core.Path.{_≡_};
 ghost use Rattle.memory.specs.PlainReading.{plainReading};
 ghost use Rattle.tagged.specs.Tagged.{between, betweenAsTrue, groupNumber, leavesNumber};
-ghost use Rattle.image.specs.Test.{imageTest};
+ghost use Rattle.form.specs.Test.{imageTest};
 
 // Plain reading: the group, or 4,294,967,296 plus the refusal.
 #[no_mangle]

@@ -1,5 +1,3 @@
-pub mod Rows
-pub mod Sound
-pub mod Rules
-pub mod Records
+pub use Rattle.form.proofs.Sound
+pub use Rattle.form.proofs.Records
 pub mod One

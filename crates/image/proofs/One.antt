@@ -6,8 +6,8 @@ use Prim.Native.Nat.{ℕ}
 use lib.ListN.{replicate}
 use Rattle.laws.specs.Bytes.{putW}
 use Rattle.geometry.proofs.One.{one}
-use Rattle.image.specs.Encode.{Record}
-use Rattle.image.specs.Test.{formIn, headSound, countRight, blockSound, goodAbove, versionIn, leavesIn, recordedIn, imageTest}
+use Rattle.form.specs.Encode.{Record}
+use Rattle.form.specs.Test.{formIn, headSound, countRight, blockSound, goodAbove, versionIn, leavesIn, recordedIn, imageTest}
 
 pub head-sound-one : (block : List ℕ) {r s : Bool} → r ≡ headSound (formIn block) block → s ≡ headSound (formIn block) block → r ≡ s
 head-sound-one block = one

@@ -1,3 +1,3 @@
-pub mod Encode
-pub mod Test
-pub mod Calls
+pub use Rattle.form.specs.Encode
+pub use Rattle.form.specs.Test
+pub use Rattle.form.specs.Calls

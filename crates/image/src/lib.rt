@@ -1,4 +1,4 @@
-// The image test: 01 "Archive image" and the refusals 10 and 11, of versions 1 and 2 (02 E2). The definitions of the whole chapter stand in specs/.
+// The image test: 01 "Archive image" and the refusals 10 and 11, of versions 1 and 2 (02 E2). The definitions stand in `form`.
 // No public function has a `requires`.
 use geometry::Geometry;
 ghost use mathlib.Core.Path.{_≡_};
@@ -9,7 +9,7 @@ ghost use lib.Dec.{eqb};
 ghost use Rattle.laws.specs.Choice.{both, either};
 ghost use Rattle.laws.specs.Bytes.{putW};
 ghost use Rattle.laws.specs.Scan.{all};
-ghost use Rattle.image.specs.Test.{countOf, unusedZero, headSound, countRight, blockSound, versionIn, leavesIn, recordedIn, recordCount, recordIn, lowest, goodAbove, goodRecord, formIn, imageTest};
+ghost use Rattle.form.specs.Test.{countOf, unusedZero, headSound, countRight, blockSound, versionIn, leavesIn, recordedIn, recordCount, recordIn, lowest, goodAbove, goodRecord, formIn, imageTest};
 
 // An image block's bytes, where its records begin, where the first one's 64 bytes begin, where its check stands; a record's bytes, and the records of a full block.
 pub const BLOCK: usize = 512;

@@ -5,7 +5,7 @@ use mathlib.Core.Bool.{true, false}
 use mathlib.Core.List.{List, [], _∷_, _++_}
 use Rattle.laws.specs.Choice.{both, either}
 use Rattle.laws.specs.Scan.{all, first, count}
-use Rattle.text.specs.Words.{okWord, turnsWord, doneWord, sameWord, readWord, inWord, outWord}
+use Rattle.wording.specs.Words.{okWord, turnsWord, doneWord, sameWord, readWord, inWord, outWord}
 use Rattle.output.specs.Line.{alikeAt, hasAt, endsAt, digitOf, digitAt, digitsFrom, numberAt, lastOf, hexOf, valueAt, closesAt, plainAt, readsAt, countAt, numberIs, outOf, restAt, bare, counts, endingWith, endingOf, answerAt, afterNumber, lineOf, isLine}
 use Rattle.output.specs.declared.Line.the-variants.{Ending}
 use Rattle.laws.specs.Count.{sum, largest}

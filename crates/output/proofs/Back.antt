@@ -17,9 +17,9 @@ use Rattle.laws.proofs.Splice.{lt-or-ge}
 use Rattle.laws.proofs.Scan.{all-is}
 use Rattle.tracker.specs.Answer.{Said, ok, wait, moved, read, done, same, no}
 use Rattle.tracker.specs.declared.Transfers.{Transfers}
-use Rattle.text.specs.Words.{space, okWord, waitWord, movedWord, noWord, turnsWord, doneWord, sameWord, readWord, inWord, outWord}
-use Rattle.text.specs.Text.{digitText, digits, places, decimal, hex, turns, saidText, Narrow, transfersText, gains, Few, answerLine}
-use Rattle.text.proofs.Numbers.{pow-pos, rest-more, length-digits, length-decimal, places-high, places-low, places-some}
+use Rattle.wording.specs.Words.{space, okWord, waitWord, movedWord, noWord, turnsWord, doneWord, sameWord, readWord, inWord, outWord}
+use Rattle.wording.specs.Text.{digitText, digits, places, decimal, hex, turns, saidText, Narrow, transfersText, gains, Few, answerLine}
+use Rattle.wording.proofs.Numbers.{pow-pos, rest-more, length-digits, length-decimal, places-high, places-low, places-some}
 use Rattle.output.specs.Line.{hasAt, endsAt, digitOf, digitAt, digitsFrom, numberAt, lastOf, hexOf, valueAt, closesAt, plainAt, readsAt, countAt, numberIs, outOf, restAt, endingWith, endingOf, answerAt, afterNumber, lineOf, endingAt, lineFor}
 use Rattle.output.specs.declared.Number.the-variants.{Is}
 use Rattle.output.specs.declared.Tail.the-variants.{Told}

@@ -14,7 +14,7 @@ use Rattle.laws.specs.Choice.{both}
 use Rattle.laws.specs.Scan.{all}
 use Rattle.laws.proofs.Choice.{both-false-right, both-left, both-right}
 use Rattle.laws.proofs.Scan.{all-fails}
-use Rattle.text.specs.Words.{space, readWord, turnsWord, outWord}
+use Rattle.wording.specs.Words.{space, readWord, turnsWord, outWord}
 use Rattle.output.specs.Line.{alikeAt, hasAt, hexOf, valueAt, digitAt, digitsFrom, numberAt, readsAt, closesAt, numberIs, outOf, restAt, counts, endingWith, endingOf, answerAt, afterNumber}
 use Rattle.output.specs.declared.Number.{Number}
 use Rattle.output.specs.declared.Number.the-variants.{Is, Nothing}

@@ -10,8 +10,8 @@ use Rattle.laws.specs.Choice.{pick, both, either}
 use Rattle.laws.specs.Scan.{all}
 use Rattle.tracker.specs.Answer.{Said, ok, wait, moved, read, done, same, no}
 use Rattle.tracker.specs.declared.Transfers.{Transfers}
-use Rattle.text.specs.Words.{space, okWord, waitWord, movedWord, noWord, turnsWord, doneWord, sameWord, readWord, inWord, outWord}
-use Rattle.text.specs.Text.{places}
+use Rattle.wording.specs.Words.{space, okWord, waitWord, movedWord, noWord, turnsWord, doneWord, sameWord, readWord, inWord, outWord}
+use Rattle.wording.specs.Text.{places}
 use Rattle.output.specs.declared.Number.{Number}
 use Rattle.output.specs.declared.Number.the-variants.{Is, Nothing}
 use Rattle.output.specs.declared.Counts.{Counts}

@@ -16,10 +16,10 @@ use Rattle.geometry.specs.TagMemory.{memoryLength, blockPlace, mapPlace, mapBit
 use Rattle.block.specs.Block.{putBit}
 use Rattle.block.proofs.Blocks.{copy-fits}
 use Rattle.laws.proofs.Writes.{splice-end}
-use Rattle.image.specs.Encode.{Record}
-use Rattle.image.specs.Test.{leavesIn, recordedIn, recordIn, recordAt, imageTest}
-use Rattle.image.specs.Calls.{putRecord, filled, recordsIn, memoryOf, restoringTests, restoringRefusal, restored}
-use Rattle.image.proofs.Records.{length-recordsTo, recordsTo-at}
+use Rattle.form.specs.Encode.{Record}
+use Rattle.form.specs.Test.{leavesIn, recordedIn, recordIn, recordAt, imageTest}
+use Rattle.form.specs.Calls.{putRecord, filled, recordsIn, memoryOf, restoringTests, restoringRefusal, restored}
+use Rattle.form.proofs.Records.{length-recordsTo, recordsTo-at}
 
 pub put-record-law : (n : ℕ) (mem row : List ℕ) (i : ℕ) → length row ≡ 512 → i < 7
     → putBit (pick (fits row (12 + 68 * i) 64) (putW 64 mem (blockPlace (recordIn row i .leaf)) (part row (12 + 68 * i) 64)) mem) (mapPlace n (recordIn row i .leaf)) (mapBitOf (recordIn row i .leaf)) 1

@@ -4,7 +4,7 @@ use mathlib.Core.List.{List}
 use Prim.Native.Nat.{ℕ}
 use lib.ListN.{length}
 use Rattle.geometry.proofs.One.{one}
-use Rattle.image.specs.Calls.{restoringRefusal, restored}
+use Rattle.form.specs.Calls.{restoringRefusal, restored}
 
 pub restore-one : (image mem : List ℕ) {r s : ℕ} {o p : List ℕ}
     → (r ≡ restoringRefusal image (length mem)) × (o ≡ restored image mem) → (s ≡ restoringRefusal image (length mem)) × (p ≡ restored image mem) → (r ≡ s) × (o ≡ p)

@@ -5,8 +5,8 @@ ghost use mathlib.Core.Path.{_≡_};
 ghost use Prim.Native.Nat.{_+_, _*_, _/_, _≤_, _<_};
 ghost use lib.ListN.{length};
 ghost use Rattle.geometry.specs.TagMemory.{memoryLength};
-ghost use Rattle.image.specs.Test.{wholeBlocks, recordIn, recordAt, recordedIn};
-ghost use Rattle.image.specs.Calls.{putRecord, recordsIn, memoryOf, restoringRefusal, restored};
+ghost use Rattle.form.specs.Test.{wholeBlocks, recordIn, recordAt, recordedIn};
+ghost use Rattle.form.specs.Calls.{putRecord, recordsIn, memoryOf, restoringRefusal, restored};
 
 // Record i of a block into a memory of n leaves: its leaf and its bit.
 fn put_record(n: u32, memory: &mut [u8], row: &[u8], i: usize)

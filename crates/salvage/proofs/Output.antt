@@ -11,9 +11,9 @@ use Rattle.laws.proofs.Splice.{lt-or-ge, length-splice, length-part′, part-sa
 use Rattle.laws.proofs.Put.{putW-fits}
 use Rattle.laws.proofs.Parts.{part-part}
 use Rattle.laws.proofs.Writes.{splice-none, splice-then, splice-copy}
-use Rattle.image.specs.Encode.{version2, Record, none, Sized, recordBytes, recordsBytes, headOf, closed, blockOf, next7, recordBlocks, blocksFor, encode}
-use Rattle.image.proofs.Sound.{fit-2}
-use Rattle.image.proofs.Records.{closed-records, records-none, records-more, length-records, length-head, length-block, length-blocks, next-few, next-full}
+use Rattle.form.specs.Encode.{version2, Record, none, Sized, recordBytes, recordsBytes, headOf, closed, blockOf, next7, recordBlocks, blocksFor, encode}
+use Rattle.form.proofs.Sound.{fit-2}
+use Rattle.form.proofs.Records.{closed-records, records-none, records-more, length-records, length-head, length-block, length-blocks, next-few, next-full}
 use Rattle.writing.proofs.Blocks.{image-law}
 use Rattle.salvage.specs.Walk.{recordPlace, closedAt, withRecords, lastClosed, withEntries}
 use Rattle.salvage.proofs.Walk.{record-mid, record-full, last-full, last-part, entry-set, with-more, entries-more}

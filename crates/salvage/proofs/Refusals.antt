@@ -13,13 +13,14 @@ use Rattle.laws.specs.Refusal.{refusal, unless}
 use Rattle.laws.proofs.Choice.{both-true, both-left, both-right, both-false-left, both-false-right}
 use Rattle.laws.proofs.Refusal.{Hold, refusal-0, refusal-hold, refusal-first, refusal-then, refusal-past, unless-0, unless-no, unless-by}
 use Rattle.sums.specs.Check.{checkRight}
-use Rattle.image.specs.Encode.{version2, blocksFor}
-use Rattle.image.specs.Test.{imageBlock, headSound, formOf, leavesIn, lengthRight}
-use Rattle.image.proofs.Sound.{fit-2}
-use Rattle.image.proofs.Records.{length-encode}
+use Rattle.form.specs.Encode.{version2, blocksFor}
+use Rattle.form.specs.Test.{imageBlock, headSound, formOf, leavesIn, lengthRight}
+use Rattle.form.proofs.Sound.{fit-2}
+use Rattle.form.proofs.Records.{length-encode}
 use Rattle.salvage.specs.declared.Salvaged.{Salvaged}
-use Rattle.salvage.specs.Salvage.{taken, newImage, headTests, roomTests, salvageRefusal, Left, left, salvaging, numbered, asNumber, listedNumber}
-use Rattle.salvage.proofs.Kept.{kept-sized}
+use Rattle.damaged.specs.Taken.{taken}
+use Rattle.salvage.specs.Salvage.{newImage, headTests, roomTests, salvageRefusal, Left, left, salvaging, numbered, asNumber, listedNumber}
+use Rattle.damaged.proofs.Kept.{kept-sized}
 
 abbrev pub refusedWith : ℕ → Salvaged
 refusedWith c = record { refusal = c; length = 0; listed = 0 }

@@ -18,23 +18,24 @@ use Rattle.laws.proofs.Splice.{lt-or-ge}
 use Rattle.laws.proofs.Writes.{splice-none}
 use Rattle.geometry.specs.TagMemory.{inLimits}
 use Rattle.sums.specs.Check.{checkRight}
-use Rattle.image.specs.Encode.{Form, version2, Record, none, next7, encode}
-use Rattle.image.specs.Test.{wholeBlocks, imageBlock, countOf, recordIn, recordAt, blockSound, soundAt, recordCount, lowest, goodAbove, goodRecord, formOf, versionIn, leavesIn, recordedIn, checksRight, testBy, imageTest}
-use Rattle.image.specs.Calls.{recordsTo, recordsIn}
-use Rattle.image.proofs.Sound.{form-new, fit-2, sound-head, sound-block}
-use Rattle.image.proofs.Rules.{Accepted, accepted, good-is, good-above, good-below, record-in}
-use Rattle.image.proofs.Records.{length-recordsTo, recordsTo-at, next-few, next-full, next-bounds}
+use Rattle.form.specs.Encode.{Form, version2, Record, none, next7, encode}
+use Rattle.form.specs.Test.{wholeBlocks, imageBlock, countOf, recordIn, recordAt, blockSound, soundAt, recordCount, lowest, goodAbove, goodRecord, formOf, versionIn, leavesIn, recordedIn, checksRight, testBy, imageTest}
+use Rattle.form.specs.Calls.{recordsTo, recordsIn}
+use Rattle.form.proofs.Sound.{form-new, fit-2, sound-head, sound-block}
+use Rattle.form.proofs.Rules.{Accepted, accepted, good-is, good-above, good-below, record-in}
+use Rattle.form.proofs.Records.{length-recordsTo, recordsTo-at, next-few, next-full, next-bounds}
 use Rattle.archive.specs.Theorems.{listed, Good}
 use Rattle.archive.proofs.Written.{good-same, leaves-are, recorded-are, record-is}
 use Rattle.archive.proofs.Encoded.{head-limits, few-blocks, count-next, is-encoding}
 use Rattle.archive.proofs.Versions.{new-encoding-version, new-encoding-accepted}
-use Rattle.salvage.specs.Salvage.{Taken, used, above, takeRecord, takeRecords, takeBlock, takeBlocks, taken, newImage, headTests, left, salvaging}
-use Rattle.salvage.specs.Theorems.{From}
-use Rattle.salvage.proofs.Walk.{length-more, getD-last, above-none, above-more, record-kept, records-none, records-more, block-used, blocks-none}
+use Rattle.damaged.specs.Taken.{Taken, used, above, takeRecord, takeRecords, takeBlock, takeBlocks, taken}
+use Rattle.salvage.specs.Salvage.{newImage, headTests, left, salvaging}
+use Rattle.damaged.specs.Theorems.{From}
+use Rattle.damaged.proofs.Taken.{length-more, getD-last, above-none, above-more, record-kept, records-none, records-more, block-used, blocks-none}
 use Rattle.salvage.proofs.Walk.{sound-head as head-not-refused}
-use Rattle.salvage.proofs.Kept.{taken-by, all-from, kept-sized}
+use Rattle.damaged.proofs.Kept.{taken-by, all-from, kept-sized}
 use Rattle.salvage.proofs.Refusals.{holds, some, whole, length-new, salvages}
-use Rattle.salvage.proofs.Told.{few-taken}
+use Rattle.damaged.proofs.Told.{few-taken}
 
 -- what the records kept are, as they are taken: good, no more than the leaf number after the last, and that at most n
 record Rising (n : ℕ) (rs : List Record) : Type 0 where

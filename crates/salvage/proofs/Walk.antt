@@ -5,25 +5,25 @@ use mathlib.Core.Bool.{Bool, true, false}
 use Prim.Native.Nat.{ℕ, zero, suc, _+_, _*_, _/_, _%_, _-_, _≤_, _<_}
 use native.Mathlib.Numerals.{add-one}
 use native.Mathlib.Omega.{arith}
-use lib.ListN.{length, take, drop, getD, set, length-append, List·getD-append}
-use lib.Seq.{getD-at}
+use lib.ListN.{length, take, drop, getD, set, List·getD-append}
 use lib.Dec.{eqb}
 use borrow.Author.Tests.{eq-eqb, ne-eqb, lt-ltb, le-ltb}
 use Rattle.laws.specs.Choice.{both}
 use Rattle.laws.specs.Bytes.{putW, numberAt}
 use Rattle.laws.specs.Refusal.{refusal}
-use Rattle.laws.proofs.Choice.{both-true, both-right, both-false-left, both-false-right}
+use Rattle.laws.proofs.Choice.{both-true, both-false-left, both-false-right}
 use Rattle.laws.proofs.Refusal.{refusal-0, refusal-first}
 use Rattle.laws.proofs.Put.{part-is, putW-fits}
 use Rattle.laws.proofs.Value.{splice-sets}
 use Rattle.block.specs.Block.{blockOr0}
 use Rattle.block.proofs.Blocks.{blockOr0-fits}
 use Rattle.sums.specs.Check.{checkRight, modulusFor}
-use Rattle.image.specs.Encode.{Record, none, recordBytes}
-use Rattle.image.specs.Test.{wholeBlocks, imageBlock, countOf, recordIn, headSound, blockSound, leavesIn, goodAbove, formOf, versionIn, lengthRight, lowest}
-use Rattle.image.proofs.Sound.{form-modulus, count-bounds, sound-count}
-use Rattle.image.proofs.Rules.{lowest-none, lowest-more}
-use Rattle.salvage.specs.Salvage.{Taken, used, above, takeRecord, takeRecords, takeBlock, takeBlocks, headTests}
+use Rattle.form.specs.Encode.{Record, none, recordBytes}
+use Rattle.form.specs.Test.{wholeBlocks, imageBlock, recordIn, headSound, blockSound, goodAbove, formOf, versionIn, lengthRight}
+use Rattle.form.proofs.Sound.{form-modulus}
+use Rattle.damaged.specs.Taken.{Taken, used, above, takeRecord}
+use Rattle.damaged.proofs.Taken.{length-more, getD-last, above-none, above-more, record-kept, record-left}
+use Rattle.salvage.specs.Salvage.{headTests}
 use Rattle.salvage.specs.Walk.{recordPlace, closedAt, withRecord, withRecords, lastClosed, withEntries, At}
 
 -- a record of the new image, its last block, an entry of the list
@@ -85,53 +85,6 @@ module _ (image : List ℕ) where
 
     pub sound-head : sound ≡ true → refusal (headTests image) ≡ 0
     sound-head h = refusal-0 (headTests image) (good-10, (h, tt))
-
--- a record that is kept, and one that is left out
-module _ (n j : ℕ) (b : List ℕ) (t : Taken) (i : ℕ) where
-  pub record-kept : goodAbove n (above (t .kept)) (recordIn b i) ≡ true
-      → takeRecord n j b t i ≡ record { kept = t .kept ++ (recordIn b i ∷ []); listed = t .listed }
-  unfolding takeRecord
-  record-kept h = rw h
-
-  pub record-left : goodAbove n (above (t .kept)) (recordIn b i) ≡ false
-      → takeRecord n j b t i ≡ record { kept = t .kept; listed = t .listed ++ ((8 * j + i) ∷ []) }
-  unfolding takeRecord
-  record-left h = rw h
-
-module _ (n j : ℕ) (b : List ℕ) (t : Taken) where
-  pub records-none : takeRecords n j b t 0 ≡ t
-  unfolding takeRecords
-  records-none = refl
-
-  pub records-more : (i : ℕ) → takeRecords n j b t (i + 1) ≡ takeRecord n j b (takeRecords n j b t i) i
-  unfolding takeRecords
-  records-more i = rw (add-one i)
-
-  pub block-used : (sound : Bool) → sound ≡ true → takeBlock n j sound b t ≡ takeRecords n j b t (countOf b)
-  unfolding takeBlock
-  block-used sound h = rw h
-
-  pub block-left : (sound : Bool) → sound ≡ false → takeBlock n j sound b t ≡ record { kept = t .kept; listed = t .listed ++ ((8 * j + 7) ∷ []) }
-  unfolding takeBlock
-  block-left sound h = rw h
-
--- one element more at the end
-module _ {A : Type 0} (xs : List A) (x : A) where
-  pub length-more : length (xs ++ (x ∷ [])) ≡ length xs + 1
-  length-more = length-append xs (x ∷ [])
-
-  pub getD-last : (d : A) → getD (xs ++ (x ∷ [])) (length xs) d ≡ x
-  getD-last d = getD-at xs x [] d (length xs) refl
-
-pub above-none : above [] ≡ 0
-unfolding above
-above-none = lowest-none 0 (λ p. getD [] p none)
-
-pub above-more : (rs : List Record) (r : Record) → above (rs ++ (r ∷ [])) ≡ r .leaf + 1
-unfolding above
-above-more rs r =
-    ap (lowest 0 (λ p. getD (rs ++ (r ∷ [])) p none)) (length-more rs r) ∙ lowest-more 0 (λ p. getD (rs ++ (r ∷ [])) p none) (length rs)
-    ∙ ap (λ (x : Record). x .leaf + 1) (getD-last rs r none)
 
 records-front : (o : List ℕ) (rs xs : List Record) (p : ℕ) → p ≤ length rs → withRecords o (rs ++ xs) p ≡ withRecords o rs p
 unfolding withRecords
@@ -217,22 +170,3 @@ pub used-is : (image : List ℕ) (j : ℕ) {v : ℕ} {r : Bool} → v ≡ versio
     → r ≡ used image j
 unfolding used
 used-is image j e h = h ∙ (λ i. both (sym (check-is image j e refl) i) (blockSound (eqb (j + 1) (wholeBlocks image)) j (part-is image (512 * j) 512 i)))
-
--- a block that is used has at most seven records
-pub used-few : (image : List ℕ) (j : ℕ) → used image j ≡ true → countOf (imageBlock image j) ≤ 7
-unfolding used
-used-few image j h =
-    count-bounds (eqb (j + 1) (wholeBlocks image)) (countOf (imageBlock image j)) (sound-count (eqb (j + 1) (wholeBlocks image)) j (imageBlock image j) (both-right _ _ h)) .1
-
-pub blocks-none : (image : List ℕ) → takeBlocks image 0 ≡ record { kept = []; listed = [] }
-unfolding takeBlocks
-blocks-none image = refl
-
-pub blocks-more : (image : List ℕ) (j : ℕ) {n : ℕ} {s : Bool} {b : List ℕ} → 1 ≤ j → n ≡ leavesIn image → s ≡ used image j → b ≡ imageBlock image j
-    → takeBlock n j s b (takeBlocks image (j - 1)) ≡ takeBlocks image (j + 1 - 1)
-unfolding takeBlocks
-blocks-more image zero l e f g = absurd (omega arith)
-blocks-more image (suc j) l e f g =
-    let p : suc j - 1 ≡ j = omega arith in
-    let q : suc (suc j - 1) ≡ suc j + 1 - 1 = omega arith in
-    (λ i. takeBlock (e i) (suc j) (f i) (g i) (takeBlocks image (p i))) ∙ ap (takeBlocks image) (ap suc (sym p) ∙ q)

@@ -1,3 +1,2 @@
 pub mod Salvage
 pub mod Walk
-pub mod Theorems

@@ -6,8 +6,8 @@ use lib.ListN.{length, getD}
 use lib.Dec.{eqb}
 use Rattle.laws.specs.Choice.{pick}
 use Rattle.laws.specs.Bytes.{part, putW}
-use Rattle.image.specs.Encode.{Record, none, recordBytes, closed}
-use Rattle.salvage.specs.Salvage.{Taken, above}
+use Rattle.form.specs.Encode.{Record, none, recordBytes, closed}
+use Rattle.damaged.specs.Taken.{Taken, above}
 
 -- where record p of an image begins
 abbrev pub recordPlace : ℕ → ℕ

@@ -10,9 +10,10 @@ ghost use Rattle.laws.specs.Choice.{both};
 ghost use Rattle.laws.specs.Bytes.{bytes, splice, putW};
 ghost use Rattle.laws.specs.Refusal.{refusal};
 ghost use Rattle.sums.specs.Check.{checkRight, modulusFor};
-ghost use Rattle.image.specs.Encode.{blocksFor};
-ghost use Rattle.image.specs.Test.{countOf, blockSound, leavesIn};
-ghost use Rattle.salvage.specs.Salvage.{Taken, takeRecord, takeRecords, takeBlock, taken, newImage, headTests, left, salvaging, numbered, asNumber, listedNumber};
+ghost use Rattle.form.specs.Encode.{blocksFor};
+ghost use Rattle.form.specs.Test.{countOf, blockSound, leavesIn};
+ghost use Rattle.damaged.specs.Taken.{Taken, takeRecord, takeRecords, takeBlock, taken};
+ghost use Rattle.salvage.specs.Salvage.{newImage, headTests, left, salvaging, numbered, asNumber, listedNumber};
 ghost use Rattle.salvage.specs.Walk.{closedAt, withRecord, lastClosed, At};
 
 const REFUSED: u64 = 4294967296;

@@ -10,8 +10,8 @@ use Rattle.tracker.specs.Answer.{Said, ok, wait, moved, read, done, same, no, s
 use Rattle.tracker.specs.declared.Answer.{Answer}
 use Rattle.tracker.specs.declared.Transfers.{Transfers}
 use Rattle.tracker.specs.declared.Answer.the-variants.{Accepted, Wait, Moved, Read, Done, Same, No}
-use Rattle.text.specs.Text.{digits, places, decimal, hex, turns, saidText, Narrow, transfersText, gains, Few, answerLine, lineText, most, lineIn}
-use Rattle.text.proofs.Numbers.{length-digits, length-decimal, places-8, places-16, places-64}
+use Rattle.wording.specs.Text.{digits, places, decimal, hex, turns, saidText, Narrow, transfersText, gains, Few, answerLine, lineText, most, lineIn}
+use Rattle.wording.proofs.Numbers.{length-digits, length-decimal, places-8, places-16, places-64}
 use Rattle.laws.proofs.Writes.{splice-none}
 use Rattle.text.proofs.Writes.{then-put, then-end}
 

@@ -6,7 +6,7 @@ use lib.ListN.{length}
 use Rattle.laws.specs.Bytes.{splice}
 use Rattle.tracker.specs.Answer.{Said}
 use Rattle.tracker.specs.declared.Transfers.{Transfers}
-use Rattle.text.specs.Text.{lineIn}
+use Rattle.wording.specs.Text.{lineIn}
 
 pub put-line-one : (m : List ℕ) (a k : ℕ) (said : Said) (t : Transfers) {x y : List ℕ} {r q : ℕ}
     → (x ≡ splice m a (lineIn m a k said t)) × (r ≡ a + length (lineIn m a k said t))

@@ -8,8 +8,8 @@ use lib.ListN.{length, take, drop, getD, set, length-append}
 use lib.Seq.{take-length, paste, paste-zero, paste-suc}
 use Rattle.laws.specs.Bytes.{splice}
 use Rattle.laws.proofs.Writes.{splice-none, splice-cons, splice-then}
-use Rattle.text.specs.Text.{digitText, digits}
-use Rattle.text.proofs.Numbers.{length-digits, no-digits, digit-more}
+use Rattle.wording.specs.Text.{digitText, digits}
+use Rattle.wording.proofs.Numbers.{length-digits, no-digits, digit-more}
 
 -- one text after another, of what calls give: b is put from a up to p, then c
 module _ (m : List ℕ) (a : ℕ) (b c : List ℕ) where

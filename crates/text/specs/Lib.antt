@@ -1,2 +1,1 @@
-pub mod Words
-pub mod Text
+pub use Rattle.wording.specs.Text

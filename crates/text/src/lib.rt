@@ -8,7 +8,7 @@ ghost use Prim.Native.Nat.{_+_, _≤_, _<_};
 ghost use lib.ListN.{length};
 ghost use Rattle.laws.specs.Bytes.{splice};
 ghost use Rattle.tracker.specs.Answer.{says, read};
-ghost use Rattle.text.specs.Text.{digitText, digits, places, decimal, saidText, transfersText, gains, lineText, most, lineIn};
+ghost use Rattle.wording.specs.Text.{digitText, digits, places, decimal, saidText, transfersText, gains, lineText, most, lineIn};
 
 // The bytes that are kept free for a line; none is longer.
 pub const MOST: usize = 64;

@@ -13,11 +13,11 @@ use Rattle.laws.proofs.Value.{length-bytes}
 use Rattle.sums.specs.Check.{checkOf, withCheck}
 use Rattle.laws.proofs.Writes.{splice-none, splice-then, take-splice}
 use Rattle.sums.proofs.Right.{sealed}
-use Rattle.image.specs.Encode.{Form, version2, Record, none, Sized, recordBytes, recordsBytes, headFront, headRest, headOf, headed, blockFront, blockWith, closed, blockOf, next7, recordBlocks, blocksFor, encode, recordOf, recordsBelow, recordsOf}
+use Rattle.form.specs.Encode.{Form, version2, Record, none, Sized, recordBytes, recordsBytes, headFront, headRest, headOf, headed, blockFront, blockWith, closed, blockOf, next7, recordBlocks, blocksFor, encode, recordOf, recordsBelow, recordsOf}
 use Rattle.memory.specs.PlainReading.{leafBit}
 use Rattle.memory.specs.True.{blockAt}
-use Rattle.image.proofs.Sound.{fit-2}
-use Rattle.image.proofs.Records.{records-sized, closed-is, closed-records, headed-is, records-none, records-more, below-at, length-take, length-record, length-records, length-headFront, length-head, length-blockFront, length-payload, length-block, length-blocks, next-few, next-full, next-bounds}
+use Rattle.form.proofs.Sound.{fit-2}
+use Rattle.form.proofs.Records.{records-sized, closed-is, closed-records, headed-is, records-none, records-more, below-at, length-take, length-record, length-records, length-headFront, length-head, length-blockFront, length-payload, length-block, length-blocks, next-few, next-full, next-bounds}
 
 -- a write right after another
 pub put-then : (w : ℕ) (l : List ℕ) (at : ℕ) (v b : List ℕ) (p : ℕ) → p ≡ at + length v → p + w ≤ length l → putW w (splice l at v) p b ≡ splice l at (v ++ b)

@@ -5,8 +5,8 @@ use Prim.Native.Nat.{ℕ}
 use lib.ListN.{length}
 use Rattle.geometry.proofs.One.{one}
 use Rattle.laws.specs.Bytes.{putW, bytes}
-use Rattle.image.specs.Encode.{version2, headed, closed}
-use Rattle.image.specs.Calls.{writingAnswer, written}
+use Rattle.form.specs.Encode.{version2, headed, closed}
+use Rattle.form.specs.Calls.{writingAnswer, written}
 
 pub write-image-one : (n : ℕ) (mem output : List ℕ) {r s : ℕ} {o p : List ℕ}
     → (r ≡ writingAnswer n mem (length output)) × (o ≡ written n mem output) → (s ≡ writingAnswer n mem (length output)) × (p ≡ written n mem output) → (r ≡ s) × (o ≡ p)

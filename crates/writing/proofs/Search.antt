@@ -16,8 +16,8 @@ use Rattle.geometry.specs.TagMemory.{mapBlocks}
 use Rattle.memory.specs.PlainReading.{leafBit}
 use Rattle.memory.specs.True.{mapWord, isTrue}
 use Rattle.memory.proofs.Truth.{word-bit, true-means}
-use Rattle.image.specs.Encode.{recordsBelow, recordsOf}
-use Rattle.image.proofs.Records.{below-unmarked, length-more}
+use Rattle.form.specs.Encode.{recordsBelow, recordsOf}
+use Rattle.form.proofs.Records.{below-unmarked, length-more}
 
 -- the ones of a word are its leaves with bit 1
 pub word-more : (n : ℕ) (m : List ℕ) → Bytes m → (i word : ℕ) → word ≡ mapWord n m i → word < 4294967296

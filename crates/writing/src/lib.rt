@@ -10,8 +10,8 @@ ghost use Rattle.laws.specs.Bytes.{splice, putW, bytes};
 ghost use Rattle.geometry.specs.TagMemory.{memoryLength};
 ghost use Rattle.memory.specs.PlainReading.{leafBit};
 ghost use Rattle.memory.specs.True.{isTrue};
-ghost use Rattle.image.specs.Encode.{version2, recordsBytes, headed, blockFront, closed, blockOf, next7, recordBlocks, blocksFor, recordsBelow, recordsOf, imageOf};
-ghost use Rattle.image.specs.Calls.{writingAnswer, written};
+ghost use Rattle.form.specs.Encode.{version2, recordsBytes, headed, blockFront, closed, blockOf, next7, recordBlocks, blocksFor, recordsBelow, recordsOf, imageOf};
+ghost use Rattle.form.specs.Calls.{writingAnswer, written};
 
 const REFUSED: u64 = 4294967296;
 

@@ -6,8 +6,8 @@ use borrow.Author.Tests.{not-true, not-false}
 use Rattle.laws.specs.Choice.{both}
 use Rattle.laws.specs.Scan.{all}
 use Rattle.laws.proofs.Choice.{not-both-ways, both-when, both-false-left, both-false-right}
-use Rattle.image.specs.Test.{countOf, blockSound, recordIn, lowest, goodRecord}
-use Rattle.image.proofs.Sound.{sound-count, count-bounds}
+use Rattle.form.specs.Test.{countOf, blockSound, recordIn, lowest, goodRecord}
+use Rattle.form.proofs.Sound.{sound-count, count-bounds}
 use borrow.Author.Needs.{needs}
 use Rattle.image.proofs.block_kept.Statement.{statement}
 use Rattle.image.proofs.block_kept.Tie as tie

@@ -3,8 +3,8 @@ use mathlib.Core.Path.{_≡_, sym, _∙_}
 use mathlib.Core.Bool.{true, false}
 use native.Mathlib.Omega.{arith}
 use borrow.Author.Tests.{not-true, not-false}
-use Rattle.image.specs.Test.{countRight, countOf}
-use Rattle.image.proofs.Sound.{block-short, block-miscounted, block-by, count-bounds}
+use Rattle.form.specs.Test.{countRight, countOf}
+use Rattle.form.proofs.Sound.{block-short, block-miscounted, block-by, count-bounds}
 use borrow.Author.Needs.{needs}
 use Rattle.image.proofs.block_sound.Statement.{statement}
 use Rattle.image.proofs.block_sound.Tie as tie

@@ -1,6 +1,6 @@
 -- `image::count_right` meets its contract, one arm of its definition on each way out.
 use mathlib.Core.Path.{sym}
-use Rattle.image.proofs.Sound.{count-last, count-full}
+use Rattle.form.proofs.Sound.{count-last, count-full}
 use borrow.Author.Needs.{needs}
 use Rattle.image.proofs.count_right.Statement.{statement}
 use Rattle.image.proofs.count_right.Tie as tie

@@ -1,7 +1,7 @@
 -- `image::head_sound` meets its contract: each field is read, and the tests are put together as in the definition.
 use mathlib.Core.Path.{sym}
 use native.Mathlib.Omega.{arith}
-use Rattle.image.proofs.Sound.{head-short, head-by-form}
+use Rattle.form.proofs.Sound.{head-short, head-by-form}
 use borrow.Author.Needs.{needs}
 use Rattle.image.proofs.head_sound.Statement.{statement}
 use Rattle.image.proofs.head_sound.Tie as tie

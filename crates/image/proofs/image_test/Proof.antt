@@ -1,7 +1,7 @@
 -- `image::image_test` meets its contract: a length that is no image's gives 10; else the blocks are tested.
 use mathlib.Core.Path.{sym}
 use native.Mathlib.Omega.{arith}
-use Rattle.image.proofs.Rules.{no-length-10, part-block-10}
+use Rattle.form.proofs.Rules.{no-length-10, part-block-10}
 use Rattle.image.proofs.image_test.Statement.{statement}
 use Rattle.image.proofs.image_test.Tie as tie
 

@@ -4,7 +4,7 @@ use Prim.Native.Nat.{_*_, _/_, _-_}
 use native.Mathlib.Omega.{arith}
 use lib.ListN.{length}
 use Rattle.laws.proofs.Put.{part-is}
-use Rattle.image.proofs.Sound.{records-none, records-by}
+use Rattle.form.proofs.Sound.{records-none, records-by}
 use borrow.Author.Needs.{needs}
 use Rattle.image.proofs.record_count.Statement.{statement}
 use Rattle.image.proofs.record_count.Tie as tie

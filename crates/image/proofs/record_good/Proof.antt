@@ -1,6 +1,6 @@
 -- `image::record_good` meets its contract: the tests are put together as in the definition.
 use Rattle.laws.proofs.Choice.{no-not}
-use Rattle.image.proofs.Rules.{good-by}
+use Rattle.form.proofs.Rules.{good-by}
 use borrow.Author.Needs.{needs}
 use Rattle.image.proofs.record_good.Statement.{statement}
 use Rattle.image.proofs.record_good.Tie as tie

@@ -8,8 +8,8 @@ use Rattle.laws.specs.Scan.{all}
 use Rattle.laws.proofs.Choice.{not-both-ways}
 use Rattle.laws.proofs.Scan.{all-zero, all-more, all-fails}
 use Rattle.laws.proofs.Put.{part-is}
-use Rattle.image.specs.Test.{recordIn, lowest, goodRecord}
-use Rattle.image.proofs.Rules.{lowest-none, lowest-more, good-is}
+use Rattle.form.specs.Test.{recordIn, lowest, goodRecord}
+use Rattle.form.proofs.Rules.{lowest-none, lowest-more, good-is}
 use borrow.Author.Needs.{needs}
 use Rattle.image.proofs.records_good.Statement.{statement}
 use Rattle.image.proofs.records_good.Tie as tie

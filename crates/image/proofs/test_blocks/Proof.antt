@@ -10,9 +10,9 @@ use Rattle.laws.specs.Choice.{both}
 use Rattle.laws.specs.Scan.{all}
 use Rattle.laws.proofs.Put.{part-is}
 use Rattle.sums.specs.Check.{checkRight, modulusFor}
-use Rattle.image.specs.Test.{formIn, formOf, versionIn, wholeBlocks, imageBlock, countOf, headSound, blockSound, recordIn, lowest, goodRecord}
-use Rattle.image.proofs.Sound.{form-modulus}
-use Rattle.image.proofs.Rules.{Tested, tested-head, tested-next, wrong-check, broken, miscounted, is-kept}
+use Rattle.form.specs.Test.{formIn, formOf, versionIn, wholeBlocks, imageBlock, countOf, headSound, blockSound, recordIn, lowest, goodRecord}
+use Rattle.form.proofs.Sound.{form-modulus}
+use Rattle.form.proofs.Rules.{Tested, tested-head, tested-next, wrong-check, broken, miscounted, is-kept}
 use borrow.Author.Needs.{needs}
 use Rattle.image.proofs.test_blocks.Statement.{statement}
 use Rattle.image.proofs.test_blocks.Tie as tie

@@ -2,7 +2,7 @@
 use mathlib.Core.Path.{sym, _∙_}
 use mathlib.Core.List.{_++_}
 use Rattle.laws.specs.Choice.{either}
-use Rattle.text.specs.Words.{doneWord, sameWord, turnsWord}
+use Rattle.wording.specs.Words.{doneWord, sameWord, turnsWord}
 use Rattle.output.specs.Line.{countAt}
 use Rattle.output.proofs.Lines.{has-fits, reads-fits}
 use borrow.Author.Needs.{needs}

@@ -1,6 +1,6 @@
 -- `output::read` meets its contract.
 use mathlib.Core.Path.{sym, ap, _∙_}
-use Rattle.text.specs.Words.{space}
+use Rattle.wording.specs.Words.{space}
 use Rattle.output.specs.Line.{lineOf, afterNumber}
 use Rattle.output.proofs.Lines.{has-fits, after-space, after-other, after-none}
 use borrow.Author.Needs.{needs}

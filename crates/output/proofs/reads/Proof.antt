@@ -2,7 +2,7 @@
 use Prim.Native.Nat.{_+_}
 use mathlib.Core.Path.{sym, _∙_}
 use Rattle.laws.specs.Choice.{both}
-use Rattle.text.specs.Words.{readWord}
+use Rattle.wording.specs.Words.{readWord}
 use Rattle.output.specs.Line.{readsAt}
 use Rattle.output.proofs.Lines.{has-fits, value-fits}
 use borrow.Author.Needs.{needs}

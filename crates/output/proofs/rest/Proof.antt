@@ -2,7 +2,7 @@
 use mathlib.Core.Path.{sym, _∙_}
 use native.Mathlib.Omega.{arith}
 use borrow.Author.Tests.{eq-eqb, ne-eqb}
-use Rattle.text.specs.Words.{inWord}
+use Rattle.wording.specs.Words.{inWord}
 use Rattle.output.specs.Line.{restAt}
 use Rattle.output.proofs.Lines.{has-fits}
 use borrow.Author.Needs.{needs}

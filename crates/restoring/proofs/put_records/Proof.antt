@@ -3,7 +3,7 @@ use mathlib.Core.Path.{_≡_, _∙_}
 use Prim.Native.Nat.{_-_, _≤_}
 use native.Mathlib.Omega.{arith}
 use lib.ListN.{length}
-use Rattle.image.specs.Calls.{filled, recordsIn}
+use Rattle.form.specs.Calls.{filled, recordsIn}
 use Rattle.restoring.proofs.Filling.{filled-none, filled-more, filled-all}
 use borrow.Author.Needs.{needs}
 use Rattle.restoring.proofs.put_records.Statement.{statement}

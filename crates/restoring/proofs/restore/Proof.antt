@@ -1,8 +1,8 @@
 -- `restoring::restore` meets its contract, by a law for each refusal in its order.
 use mathlib.Core.Path.{sym, _∙_}
 use native.Mathlib.Omega.{arith}
-use Rattle.image.specs.Test.{formOf}
-use Rattle.image.proofs.Rules.{accepted, accepted-fits}
+use Rattle.form.specs.Test.{formOf}
+use Rattle.form.proofs.Rules.{accepted, accepted-fits}
 use Rattle.restoring.proofs.Filling.{untested, unfit, filled-in}
 use borrow.Author.Needs.{needs}
 use Rattle.restoring.proofs.restore.Statement.{statement}

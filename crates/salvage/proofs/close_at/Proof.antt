@@ -4,7 +4,7 @@ use mathlib.Core.List.{List}
 use Prim.Native.Nat.{ℕ, _*_}
 use native.Mathlib.Omega.{arith}
 use Rattle.laws.proofs.Put.{part-is, putW-is, putW-not}
-use Rattle.image.specs.Encode.{closed}
+use Rattle.form.specs.Encode.{closed}
 use Rattle.salvage.specs.Walk.{closedAt}
 use borrow.Author.Needs.{needs}
 use Rattle.salvage.proofs.close_at.Statement.{statement}

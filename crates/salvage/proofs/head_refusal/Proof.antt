@@ -5,7 +5,7 @@ use mathlib.Core.List.{List}
 use Prim.Native.Nat.{ℕ}
 use borrow.Author.Tests.{not-true, not-false}
 use Rattle.laws.proofs.Put.{part-is}
-use Rattle.image.specs.Test.{headSound, formIn}
+use Rattle.form.specs.Test.{headSound, formIn}
 use Rattle.salvage.proofs.Walk.{check-is, no-length, part-block, wrong-check, broken-head, sound-head}
 use borrow.Author.Needs.{needs}
 use Rattle.salvage.proofs.head_refusal.Statement.{statement}

@@ -5,13 +5,13 @@ use Prim.Native.Nat.{ℕ}
 use native.Mathlib.Omega.{arith}
 use lib.ListN.{length}
 use Rattle.laws.proofs.Put.{part-is, length-part, splice-is}
-use Rattle.image.specs.Encode.{version2, Record, headOf}
-use Rattle.image.specs.Test.{leavesIn}
-use Rattle.image.proofs.Records.{headed-is}
-use Rattle.salvage.specs.Salvage.{taken}
+use Rattle.form.specs.Encode.{version2, Record, headOf}
+use Rattle.form.specs.Test.{leavesIn}
+use Rattle.form.proofs.Records.{headed-is}
+use Rattle.damaged.specs.Taken.{taken}
 use Rattle.salvage.specs.Walk.{withRecords, lastClosed}
 use Rattle.salvage.proofs.Output.{new-image, all-entries}
-use Rattle.salvage.proofs.Kept.{kept-sized}
+use Rattle.damaged.proofs.Kept.{kept-sized}
 use borrow.Author.Needs.{needs}
 use Rattle.salvage.proofs.put_salvaged.Statement.{statement}
 use Rattle.salvage.proofs.put_salvaged.Tie as tie

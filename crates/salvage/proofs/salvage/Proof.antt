@@ -4,7 +4,8 @@ use Prim.Native.Nat.{_+_, _*_, _/_}
 use native.Mathlib.Omega.{arith}
 use lib.ListN.{length}
 use Rattle.laws.specs.Refusal.{refusal}
-use Rattle.salvage.specs.Salvage.{headTests, newImage, taken, left}
+use Rattle.damaged.specs.Taken.{taken}
+use Rattle.salvage.specs.Salvage.{headTests, newImage, left}
 use Rattle.salvage.proofs.Refusals.{some, whole, length-new, head-refused, short-output, short-list, salvages}
 use borrow.Author.Needs.{needs}
 use Rattle.salvage.proofs.salvage.Statement.{statement}

@@ -2,8 +2,9 @@
 use mathlib.Core.Path.{_≡_}
 use Prim.Native.Nat.{_+_, _*_}
 use native.Mathlib.Omega.{arith}
-use Rattle.image.specs.Test.{countOf}
-use Rattle.salvage.proofs.Walk.{block-used, block-left, at-entry}
+use Rattle.form.specs.Test.{countOf}
+use Rattle.damaged.proofs.Taken.{block-used, block-left}
+use Rattle.salvage.proofs.Walk.{at-entry}
 use borrow.Author.Needs.{needs}
 use Rattle.salvage.proofs.take_block.Statement.{statement}
 use Rattle.salvage.proofs.take_block.Tie as tie

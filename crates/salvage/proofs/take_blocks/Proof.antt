@@ -5,10 +5,11 @@ use native.Mathlib.Omega.{arith}
 use lib.ListN.{length}
 use borrow.Author.Needs.{needs}
 use Rattle.laws.proofs.Put.{part-is, length-part}
-use Rattle.image.specs.Test.{wholeBlocks}
-use Rattle.salvage.specs.Salvage.{takeBlocks, used}
+use Rattle.form.specs.Test.{wholeBlocks}
+use Rattle.damaged.specs.Taken.{takeBlocks, used}
 use Rattle.salvage.specs.Walk.{At}
-use Rattle.salvage.proofs.Walk.{at-start, blocks-none, blocks-more, used-is, used-few}
+use Rattle.damaged.proofs.Taken.{blocks-none, blocks-more, used-few}
+use Rattle.salvage.proofs.Walk.{at-start, used-is}
 use Rattle.salvage.proofs.take_blocks.Statement.{statement}
 use Rattle.salvage.proofs.take_blocks.Tie as tie
 

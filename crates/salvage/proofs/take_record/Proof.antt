@@ -1,8 +1,8 @@
 -- `salvage::take_record` meets its contract, by a law for a record that is kept and one for a record that is left out.
 use mathlib.Core.Path.{sym, _∙_}
 use native.Mathlib.Omega.{arith}
-use Rattle.image.specs.Encode.{Record}
-use Rattle.image.proofs.Rules.{good-above, good-below}
+use Rattle.form.specs.Encode.{Record}
+use Rattle.form.proofs.Rules.{good-above, good-below}
 use Rattle.salvage.proofs.Walk.{took, passed}
 use borrow.Author.Needs.{needs}
 use Rattle.salvage.proofs.take_record.Statement.{statement}

@@ -5,9 +5,9 @@ use mathlib.Core.List.{List}
 use native.Mathlib.Omega.{arith}
 use lib.ListN.{length}
 use borrow.Author.Needs.{needs}
-use Rattle.salvage.specs.Salvage.{Taken, takeRecords}
+use Rattle.damaged.specs.Taken.{Taken, takeRecords}
 use Rattle.salvage.specs.Walk.{At}
-use Rattle.salvage.proofs.Walk.{records-none, records-more}
+use Rattle.damaged.proofs.Taken.{records-none, records-more}
 use Rattle.salvage.proofs.take_records.Statement.{statement}
 use Rattle.salvage.proofs.take_records.Tie as tie
 

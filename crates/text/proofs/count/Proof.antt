@@ -2,7 +2,7 @@
 use mathlib.Core.Path.{_≡_, refl}
 use Prim.Native.Nat.{_≤_, _<_, _+_, _-_, _^_}
 use native.Mathlib.Omega.{arith}
-use Rattle.text.proofs.Numbers.{power-fits, next-power, places-is, twenty}
+use Rattle.wording.proofs.Numbers.{power-fits, next-power, places-is, twenty}
 use Rattle.text.proofs.count.Statement.{statement}
 use Rattle.text.proofs.count.Tie as tie
 

@@ -1,7 +1,7 @@
 -- `text::digit` meets its contract: a digit below 10, or above.
 use borrow.Author.Needs.{needs}
 use borrow.Author.Tests.{lt-ltb, le-ltb}
-use Rattle.text.specs.Text.{digitText}
+use Rattle.wording.specs.Text.{digitText}
 use Rattle.text.proofs.digit.Statement.{statement}
 use Rattle.text.proofs.digit.Tie as tie
 

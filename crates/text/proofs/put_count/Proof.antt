@@ -1,7 +1,7 @@
 -- `text::put_count` meets its contract: the word, then the number.
 use borrow.Author.Needs.{needs}
 use native.Mathlib.Omega.{arith}
-use Rattle.text.specs.Text.{decimal}
+use Rattle.wording.specs.Text.{decimal}
 use Rattle.text.proofs.Writes.{then-put, then-end}
 use Rattle.text.proofs.put_count.Statement.{statement}
 use Rattle.text.proofs.put_count.Tie as tie

@@ -3,7 +3,7 @@ use borrow.Author.Needs.{needs}
 use mathlib.Core.Path.{ap, _∙_}
 use native.Mathlib.Omega.{arith}
 use Rattle.laws.specs.Bytes.{splice}
-use Rattle.text.proofs.Numbers.{decimal-is, length-decimal}
+use Rattle.wording.proofs.Numbers.{decimal-is, length-decimal}
 use Rattle.text.proofs.put_decimal.Statement.{statement}
 use Rattle.text.proofs.put_decimal.Tie as tie
 

@@ -5,8 +5,8 @@ use native.Mathlib.Nat.{mod-lt}
 use native.Mathlib.Omega.{arith}
 use lib.ListN.{length, length-set}
 use Rattle.laws.specs.Bytes.{splice}
-use Rattle.text.specs.Text.{digits}
-use Rattle.text.proofs.Numbers.{rest-next, rest-all}
+use Rattle.wording.specs.Text.{digits}
+use Rattle.wording.proofs.Numbers.{rest-next, rest-all}
 use Rattle.text.proofs.Writes.{digits-none, digits-more, digits-all}
 use Rattle.text.proofs.put_digits.Statement.{statement}
 use Rattle.text.proofs.put_digits.Tie as tie

@@ -2,7 +2,7 @@
 use borrow.Author.Needs.{needs}
 use native.Mathlib.Omega.{arith}
 use Rattle.tracker.specs.Answer.{says}
-use Rattle.text.proofs.Numbers.{length-decimal, places-64}
+use Rattle.wording.proofs.Numbers.{length-decimal, places-64}
 use Rattle.text.proofs.Lines.{line-is}
 use Rattle.text.proofs.put_room.Statement.{statement}
 use Rattle.text.proofs.put_room.Tie as tie

@@ -1,7 +1,7 @@
 -- `text::put_said` meets its contract: each case's own pieces.
 use borrow.Author.Needs.{needs}
 use native.Mathlib.Omega.{arith}
-use Rattle.text.proofs.Numbers.{length-decimal, places-8, places-16}
+use Rattle.wording.proofs.Numbers.{length-decimal, places-8, places-16}
 use Rattle.text.proofs.Lines.{says-ok, says-wait, says-moved, says-read, says-done, says-same, says-no, said-put, length-read}
 use Rattle.text.proofs.put_said.Statement.{statement}
 use Rattle.text.proofs.put_said.Tie as tie

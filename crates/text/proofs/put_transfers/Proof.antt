@@ -1,7 +1,7 @@
 -- `text::put_transfers` meets its contract: its two pieces, one after another.
 use borrow.Author.Needs.{needs}
 use native.Mathlib.Omega.{arith}
-use Rattle.text.proofs.Numbers.{length-decimal, places-8}
+use Rattle.wording.proofs.Numbers.{length-decimal, places-8}
 use Rattle.text.proofs.Lines.{transfers-is}
 use Rattle.text.proofs.put_transfers.Statement.{statement}
 use Rattle.text.proofs.put_transfers.Tie as tie

@@ -1,7 +1,7 @@
 -- `writing::close_block` meets its contract: the front, zeros and the check, one after the other, over the records that stand in the row.
 use mathlib.Core.Path.{sym}
 use native.Mathlib.Omega.{arith}
-use Rattle.image.proofs.Records.{closed-short, closed-full}
+use Rattle.form.proofs.Records.{closed-short, closed-full}
 use Rattle.writing.proofs.Blocks.{close-law}
 use borrow.Author.Needs.{needs}
 use Rattle.writing.proofs.close_block.Statement.{statement}

@@ -5,8 +5,8 @@ use native.Mathlib.Omega.{arith}
 use lib.ListN.{length}
 use Rattle.laws.specs.Bytes.{Bytes}
 use Rattle.geometry.proofs.Places.{mapBlocks-enough}
-use Rattle.image.specs.Encode.{recordsBelow}
-use Rattle.image.proofs.Records.{below-none, length-below}
+use Rattle.form.specs.Encode.{recordsBelow}
+use Rattle.form.proofs.Records.{below-none, length-below}
 use Rattle.writing.proofs.Search.{word-more, all-counted}
 use borrow.Author.Needs.{needs}
 use Rattle.writing.proofs.count_marked.Statement.{statement}

@@ -1,7 +1,7 @@
 -- `writing::next_7` meets its contract, one arm of its definition on each way out.
 use mathlib.Core.Path.{sym}
 use native.Mathlib.Omega.{arith}
-use Rattle.image.proofs.Records.{next-few, next-full}
+use Rattle.form.proofs.Records.{next-few, next-full}
 use borrow.Author.Needs.{needs}
 use Rattle.writing.proofs.next_7.Statement.{statement}
 use Rattle.writing.proofs.next_7.Tie as tie

@@ -4,9 +4,9 @@ use Prim.Native.Nat.{_+_, _-_, _/_, _%_, _^_, _<_, _≤_}
 use native.Mathlib.Omega.{arith}
 use lib.Count.{trailingZeros}
 use Rattle.laws.specs.Bytes.{Bytes}
-use Rattle.image.specs.Encode.{recordsBelow}
+use Rattle.form.specs.Encode.{recordsBelow}
 use Rattle.memory.proofs.Words.{none-left, found, none-before}
-use Rattle.image.proofs.Records.{below-unmarked}
+use Rattle.form.proofs.Records.{below-unmarked}
 use borrow.Author.Needs.{needs}
 use Rattle.writing.proofs.next_marked.Statement.{statement}
 use Rattle.writing.proofs.next_marked.Tie as tie

@@ -1,8 +1,8 @@
 -- `writing::put_block` meets its contract: the records in their places, then the block is closed over them.
 use native.Mathlib.Omega.{arith}
 use lib.ListN.{length}
-use Rattle.image.specs.Encode.{recordsBelow, recordsOf}
-use Rattle.image.proofs.Records.{records-sized}
+use Rattle.form.specs.Encode.{recordsBelow, recordsOf}
+use Rattle.form.proofs.Records.{records-sized}
 use Rattle.writing.proofs.Blocks.{block-law}
 use borrow.Author.Needs.{needs}
 use Rattle.writing.proofs.put_block.Statement.{statement}

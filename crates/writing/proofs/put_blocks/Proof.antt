@@ -4,8 +4,8 @@ use Prim.Native.Nat.{_+_, _*_, _-_}
 use native.Mathlib.Omega.{arith}
 use lib.ListN.{length}
 use Rattle.laws.proofs.Put.{part-is, length-part, splice-is}
-use Rattle.image.specs.Encode.{blocksFor}
-use Rattle.image.proofs.Records.{below-none, next-bounds}
+use Rattle.form.specs.Encode.{blocksFor}
+use Rattle.form.proofs.Records.{below-none, next-bounds}
 use Rattle.writing.proofs.Blocks.{Progress, start, room, next-block}
 use borrow.Author.Needs.{needs}
 use Rattle.writing.proofs.put_blocks.Statement.{statement}

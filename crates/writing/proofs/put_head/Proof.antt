@@ -1,7 +1,7 @@
 -- `writing::put_head` meets its contract: six writes one after the other, and the check.
 use mathlib.Core.Path.{sym}
-use Rattle.image.specs.Encode.{version2}
-use Rattle.image.proofs.Records.{headed-short}
+use Rattle.form.specs.Encode.{version2}
+use Rattle.form.proofs.Records.{headed-short}
 use Rattle.writing.proofs.Blocks.{head-law-2}
 use borrow.Author.Needs.{needs}
 use Rattle.writing.proofs.put_head.Statement.{statement}

@@ -3,8 +3,8 @@ use native.Mathlib.Omega.{arith}
 use mathlib.Core.Path.{ap, _∙_}
 use lib.ListN.{length}
 use Rattle.laws.proofs.Put.{part-is, length-part, splice-is}
-use Rattle.image.specs.Encode.{version2, headOf, recordsOf}
-use Rattle.image.proofs.Records.{headed-is, records-sized}
+use Rattle.form.specs.Encode.{version2, headOf, recordsOf}
+use Rattle.form.proofs.Records.{headed-is, records-sized}
 use Rattle.writing.proofs.Blocks.{image-law}
 use borrow.Author.Needs.{needs}
 use Rattle.writing.proofs.put_image.Statement.{statement}

@@ -6,9 +6,9 @@ use borrow.Author.Tests.{not-true, not-false}
 use lib.ListN.{length}
 use Rattle.geometry.specs.TagMemory.{memoryLength}
 use Rattle.geometry.proofs.Limits.{inLimits-most}
-use Rattle.image.proofs.Records.{length-below}
-use Rattle.image.specs.Encode.{imageOf}
-use Rattle.writing.proofs.Refusals.{length-image, refusal-1, refusal-2, refusal-3, refusal-9, refusal-none, refused, accepted}
+use Rattle.form.proofs.Records.{length-below}
+use Rattle.form.specs.Encode.{imageOf}
+use Rattle.form.proofs.Refusals.{length-image, refusal-1, refusal-2, refusal-3, refusal-9, refusal-none, refused, accepted}
 use borrow.Author.Needs.{needs}
 use Rattle.writing.proofs.write_image.Statement.{statement}
 use Rattle.writing.proofs.write_image.Tie as tie
