@@ -187,7 +187,7 @@ unfolding splice encode version1 headOf recordBlocks blockWith recordsBytes next
 line = refl
 
 one-leaf : inLimits 1 ≡ true
-one-leaf = inLimits-is 1 (omega arith) (omega arith)
+one-leaf = inLimits-is 1 1 (omega arith) (omega arith)
 
 -- the old rule accepts both
 pub stuck-line : (imageTest (encode version1 1 (sent ∷ [])) ≡ 0) × (imageTest (withWord (encode version1 1 (sent ∷ [])) 1 7 255 255) ≡ 0)

@@ -103,7 +103,7 @@ module _ (image : List ℕ) (B : Bytes image) (e : imageTest image ≡ 0) (v : v
       ∙ eqb-true _ _ (either-second (eqb (versionOf (block 0)) 1) (eqb (versionOf (block 0)) 2) (both-left _ _ rest₂) (ne-eqb _ _ v))
 
   most-leaves : n ≤ 262144
-  most-leaves = inLimits-most n (both-left _ _ (both-right _ _ rest₂))
+  most-leaves = inLimits-most 1 n (both-left _ _ (both-right _ _ rest₂))
 
   zero-byte : (p : ℕ) → 16 ≤ p → p < 508 → getD (block 0) p 0 ≡ 0
   zero-byte p a l =

@@ -231,7 +231,7 @@ module _ (F : Form) (fit : Fit F) (n : ℕ) (rs : List Record) (hn : inLimits n 
   image = encode F n rs
 
   most : n ≤ 262144
-  most = inLimits-most n hn
+  most = inLimits-most 1 n hn
 
   long : length image ≡ 512 * (1 + J)
   long = length-encode F n rs (fit .room) (G .sized)

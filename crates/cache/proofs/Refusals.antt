@@ -1,8 +1,8 @@
 -- Laws of the calls by the way they end: each refusal where its test fails and those before it hold, and the call where all hold.
-use mathlib.Core.Path.{_≡_, refl, sym, _∙_}
+use mathlib.Core.Path.{_≡_, refl, sym, ap, subst, _∙_}
 use mathlib.Core.List.{List, [], _∷_, _++_}
-use mathlib.Core.Bool.{true, false}
-use Prim.Native.Nat.{ℕ, _+_, _*_, _≤_, _<_}
+use mathlib.Core.Bool.{Bool, true, false}
+use Prim.Native.Nat.{ℕ, suc, _+_, _-_, _*_, _≤_, _<_}
 use native.Mathlib.Omega.{arith}
 use lib.Dec.{eqb, leb}
 use lib.ListN.{length}
@@ -12,12 +12,14 @@ use Rattle.laws.specs.Refusal.{Tests, refusal, unless}
 use Rattle.laws.proofs.Refusal.{refusal-0, refusal-hold, refusal-first, refusal-then, refusal-past, unless-0, unless-no}
 use Rattle.laws.specs.Bytes.{part}
 use Rattle.laws.specs.Scan.{all}
-use Rattle.laws.proofs.Choice.{both-true}
-use Rattle.geometry.specs.Shape.{shapeOf}
-use Rattle.geometry.specs.TagMemory.{memoryLength, mapBlockOf, mapByteOf, mapBitOf, blockPlace, mostLeaves, mostTrackers, mostLines}
+use Rattle.laws.proofs.Choice.{both-true, both-false-right}
+use Rattle.geometry.specs.Shape.{shapeOf, topOf}
+use Rattle.geometry.specs.TagMemory.{mostLeavesOf, mostLeaves, inLimitsOf, mapBlockOf, mapByteOf, mapBitOf, blockOn, blockPlace, mostTrackers, mostLines}
+use Rattle.geometry.proofs.Shapes.{below-start}
+use Rattle.geometry.proofs.Levels.{base-rises}
 use Rattle.block.specs.Block.{bitAt}
-use Rattle.memory.specs.PlainReading.{leafBit}
-use Rattle.memory.specs.True.{isTrue, clearedMap}
+use Rattle.memory.specs.PlainReading.{bitOver}
+use Rattle.memory.specs.True.{isTrueOf, isTrue, clearedOf, clearedMap}
 use Rattle.tracker.specs.declared.Access.{Access}
 use Rattle.tracker.specs.Tracker.{issued, isIdle}
 use Rattle.tracker.specs.Answer.{ok}
@@ -26,12 +28,20 @@ use Rattle.rules.specs.State.{State, trackerAt, lengthsRight, begun, zeroState}
 use Rattle.rules.specs.Whole.{limits, whole}
 use Rattle.rules.specs.Place.{rowsFit}
 use Rattle.rules.specs.Step.{turnOf}
-use Rattle.rules.specs.Calls.{refused, accepted, freshTests, fresh, openTests, opened, stateTests, withTracker, issueTests, issueNo, issue, stepped, stepTests, stepNo, step, allIdle, drainTests, drainNo, withLines, drain, showTests, showNo, shownBit, show}
+use Rattle.rules.specs.Calls.{refused, accepted, freshTests, fresh, openTests, opened, stateTests, withTracker, issueTests, issueNo, issue, stepped, stepTests, stepNo, step, allIdle, drainTests, drainNo, withLines, drain, showTests, showNo, shownBit, shownCounts, show}
 use Rattle.placing.specs.Lines.{rows, Drained, allDrained, drainedOn}
-use Rattle.rules.proofs.Whole.{n-most, t-most, l-most, whole-facts}
+use Rattle.rules.proofs.Whole.{inLimits-of, n-most, t-most, l-most, whole-facts}
 use Rattle.rules.proofs.Calls.{bytes-right, memory-right}
 use Rattle.rules.proofs.Begun.{fresh-free, fresh-refused as refuses-fresh, fresh-accepted as accepts-fresh, open-refused as refuses-open, open-accepted as accepts-open}
 use Rattle.cache.specs.Seen.{unready, unfit}
+
+both-yes : (a : Bool) → both a true ≡ a
+unfolding both
+both-yes true = refl
+both-yes false = refl
+
+pub n-few : (n t l : ℕ) → limits (shapeOf n t l) ≡ true → n ≤ mostLeaves
+n-few n t l h = subst (λ (d : ℕ). n ≤ mostLeavesOf (suc d)) (below-start n t l) (n-most (shapeOf n t l) h)
 
 -- fresh and open
 module _ (n t l : ℕ) (bytes memory : List ℕ) where
@@ -50,17 +60,28 @@ module _ (n t l : ℕ) (bytes memory : List ℕ) where
   pub fresh-refused : (c : ℕ) → c ≡ unready n t l bytes memory → 0 < c → fresh n t l bytes memory ≡ refused c zeroState bytes memory
   fresh-refused c e h = rw e (refuses-fresh n t l bytes memory (rw e at h))
 
+  -- 01's device has two levels
+  cleared-start : clearedOf (topOf (shapeOf n t l)) n memory ≡ clearedMap n memory
+  unfolding clearedMap
+  cleared-start = rw (below-start n t l)
+
+  true-start : isTrueOf (topOf (shapeOf n t l)) n memory ≡ isTrue n memory
+  unfolding isTrue
+  true-start = rw (below-start n t l)
+
   pub fresh-accepted : unready n t l bytes memory ≡ 0 → fresh n t l bytes memory ≡ accepted (begun (shapeOf n t l)) bytes (clearedMap n memory)
-  fresh-accepted e = accepts-fresh n t l bytes memory e
+  fresh-accepted e = accepts-fresh n t l bytes memory e ∙ rw cleared-start
 
   pub open-refused : (c : ℕ) → c ≡ unready n t l bytes memory → 0 < c → opened n t l bytes memory ≡ refused c zeroState bytes memory
   open-refused c e h =
-      let q = refusal-then (freshTests (shapeOf n t l) bytes memory) ((isTrue n memory, 3) ∷ []) (rw e at h) in
+      let q = refusal-then (freshTests (shapeOf n t l) bytes memory) ((isTrueOf (topOf (shapeOf n t l)) n memory, 3) ∷ []) (rw e at h) in
       refuses-open n t l bytes memory (rw q (rw e at h)) ∙ rw (q, e)
 
   module _ (e : unready n t l bytes memory ≡ 0) where
     open-no : refusal (openTests (shapeOf n t l) bytes memory) ≡ refusal ((isTrue n memory, 3) ∷ [])
-    open-no = refusal-past (freshTests (shapeOf n t l) bytes memory) _ (refusal-hold (freshTests (shapeOf n t l) bytes memory) refl e)
+    open-no =
+        refusal-past (freshTests (shapeOf n t l) bytes memory) _ (refusal-hold (freshTests (shapeOf n t l) bytes memory) refl e)
+        ∙ ap (λ (b : Bool). refusal ((b, 3) ∷ [])) true-start
 
     pub open-3 : isTrue n memory ≡ false → opened n t l bytes memory ≡ refused 3 zeroState bytes memory
     open-3 q =
@@ -181,12 +202,19 @@ module _ (s : State) (bytes memory : List ℕ) (k : ℕ) where
   show-fit e = past-no s bytes memory _ e
 
   -- where a leaf is shown
-  pub show-in : showNo s bytes memory k ≡ 0 → (k < s .shape .n) × (s .shape .n ≤ mostLeaves) × (s .shape .l ≤ mostLines) × (length bytes ≡ 64 * s .shape .l) × (length memory ≡ memoryLength (s .shape .n))
+  pub show-in : showNo s bytes memory k ≡ 0
+      → (k < s .shape .n) × (inLimitsOf (topOf (s .shape)) (s .shape .n) ≡ true) × (s .shape .l ≤ mostLines) × (length bytes ≡ 64 * s .shape .l) × (64 * s .shape .n ≤ length memory)
   unfolding showNo
   show-in e =
       let h = refusal-hold (stateTests s bytes memory ++ showTests (s .shape) k (allIdle s)) refl e in
       let f = whole-facts s (h .0) .limits-ok in
-      (ltb-true k (s .shape .n) (h .1 .1 .0), n-most _ f, l-most _ f, bytes-right (s .shape) bytes memory (h .1 .0), memory-right (s .shape) bytes memory (h .1 .0))
+      let leaves = base-rises (s .shape .n) 1 (suc (topOf (s .shape))) (omega arith) in (
+        ltb-true k (s .shape .n) (h .1 .1 .0),
+        inLimits-of _ f,
+        l-most _ f,
+        bytes-right (s .shape) bytes memory (h .1 .0),
+        omega (arith, leaves, memory-right (s .shape) bytes memory (h .1 .0)),
+      )
 
   pub show-refused : 0 < showNo s bytes memory k → show s bytes memory k ≡ []
   unfolding show
@@ -197,19 +225,38 @@ module _ (s : State) (bytes memory : List ℕ) (k : ℕ) where
     unfolding show unless
     show-line i q h = rw (e, ← q, lt-ltb i (s .shape .l) h)
 
-    pub show-memory : s .shape .l ≤ lineOf (s .lines) (s .shape .l) k → shownBit s bytes memory k ≡ 1 → show s bytes memory k ≡ part memory (64 * k) 64
+    pub show-memory : s .shape .l ≤ lineOf (s .lines) (s .shape .l) k → shownCounts s bytes memory (topOf (s .shape)) 0 k ≡ true → show s bytes memory k ≡ part memory (64 * k) 64
     unfolding show unless
     show-memory h b = rw (e, le-ltb (lineOf (s .lines) (s .shape .l) k) (s .shape .l) h, b)
 
-    pub show-empty : s .shape .l ≤ lineOf (s .lines) (s .shape .l) k → (shownBit s bytes memory k ≡ 1 → ⊥) → show s bytes memory k ≡ []
+    pub show-empty : s .shape .l ≤ lineOf (s .lines) (s .shape .l) k → shownCounts s bytes memory (topOf (s .shape)) 0 k ≡ false → show s bytes memory k ≡ []
     unfolding show unless
-    show-empty h b = rw (e, le-ltb (lineOf (s .lines) (s .shape .l) k) (s .shape .l) h, ne-eqb (shownBit s bytes memory k) 1 b)
+    show-empty h b = rw (e, le-ltb (lineOf (s .lines) (s .shape .l) k) (s .shape .l) h, b)
 
-  pub bit-lined : (j : ℕ) → j ≡ lineOf (s .lines) (s .shape .l) (s .shape .n + mapBlockOf k) → j < s .shape .l
-      → shownBit s bytes memory k ≡ bitAt bytes (blockPlace j + mapByteOf k) (mapBitOf k)
-  unfolding shownBit
-  bit-lined j q h = rw (← q, lt-ltb j (s .shape .l) h)
+-- the bits that are shown
+module _ (s : State) (bytes memory : List ℕ) (e k : ℕ) where
+  module _ (j : ℕ) (q : j ≡ lineOf (s .lines) (s .shape .l) (blockOn (suc e) (s .shape .n) (mapBlockOf k))) where
+    pub bit-lined : j < s .shape .l → shownBit s bytes memory e k ≡ bitAt bytes (blockPlace j + mapByteOf k) (mapBitOf k)
+    unfolding shownBit
+    bit-lined h = rw (← q, lt-ltb j (s .shape .l) h)
 
-  pub bit-memory : (j : ℕ) → j ≡ lineOf (s .lines) (s .shape .l) (s .shape .n + mapBlockOf k) → s .shape .l ≤ j → shownBit s bytes memory k ≡ leafBit (s .shape .n) memory k
-  unfolding shownBit
-  bit-memory j q h = rw (← q, le-ltb j (s .shape .l) h)
+    pub bit-memory : s .shape .l ≤ j → shownBit s bytes memory e k ≡ bitOver e (s .shape .n) memory k
+    unfolding shownBit
+    bit-memory h = rw (← q, le-ltb j (s .shape .l) h)
+
+  -- from level e, below the top, on to the next
+  module _ (top : ℕ) (l : e < top) where
+    next : top - e ≡ suc (top - suc e)
+    next = omega arith
+
+    pub counts-up : shownBit s bytes memory e k ≡ 1 → shownCounts s bytes memory (top - e) e k ≡ shownCounts s bytes memory (top - suc e) (suc e) (mapBlockOf k)
+    counts-up b = rw next (ap (both (shownCounts s bytes memory (top - suc e) (suc e) (mapBlockOf k))) (eq-eqb _ _ b) ∙ both-yes _)
+
+    pub counts-not : (shownBit s bytes memory e k ≡ 1 → ⊥) → shownCounts s bytes memory (top - e) e k ≡ false
+    counts-not b = rw next (both-false-right (shownCounts s bytes memory (top - suc e) (suc e) (mapBlockOf k)) _ (ne-eqb _ _ b))
+
+  pub counts-top : (top : ℕ) → top ≤ e → shownCounts s bytes memory (top - e) e k ≡ true
+  counts-top top l = let z : top - e ≡ 0 = omega arith in rw z refl
+
+pub counts-all : (s : State) (bytes memory : List ℕ) (top k : ℕ) → shownCounts s bytes memory top 0 k ≡ shownCounts s bytes memory (top - 0) 0 k
+counts-all s bytes memory top k = let z : top ≡ top - 0 = omega arith in ap (λ (d : ℕ). shownCounts s bytes memory d 0 k) z

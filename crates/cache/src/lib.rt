@@ -10,13 +10,13 @@ use tracker::Transfers;
 ghost use mathlib.Core.Path.{_≡_};
 ghost use mathlib.Core.List.{List};
 ghost use mathlib.Core.Bool.{true};
-ghost use Prim.Native.Nat.{ℕ, _≤_};
-ghost use Rattle.geometry.specs.Shape.{shapeOf};
-ghost use Rattle.geometry.specs.TagMemory.{mostLeaves, mostLines};
+ghost use Prim.Native.Nat.{ℕ, _≤_, _<_};
+ghost use Rattle.geometry.specs.Shape.{shapeOf, topOf};
+ghost use Rattle.geometry.specs.TagMemory.{inLimitsOf, mostLines};
 ghost use Rattle.rules.specs.State.{begun, zeroState};
 ghost use Rattle.rules.specs.Whole.{limits, whole};
 ghost use Rattle.rules.specs.Step.{turnOf};
-ghost use Rattle.rules.specs.Calls.{refused, fresh, opened, issueNo, issue, stepNo, step, drainNo, drain, showNo, shownBit, show};
+ghost use Rattle.rules.specs.Calls.{refused, fresh, opened, issueNo, issue, stepNo, step, drainNo, drain, showNo, shownBit, shownCounts, show};
 ghost use Rattle.placing.specs.Lines.{rows, drainedOn, leaves};
 ghost use Rattle.outcome.specs.Steps.{turned};
 ghost use Rattle.cache.specs.Seen.{seen, unready, unfit, did};
@@ -27,6 +27,9 @@ pub struct State {
     pub lines: [u32; Geometry::MOST_LINES],
     pub trackers: [Tracker; Geometry::MOST_TRACKERS],
 }
+
+// The top level of 01's device.
+const TOP: u8 = 1;
 
 // What a call hands back: the state, and beside it the answer, and the transfers that an ending or a drain carries.
 pub struct Out {
@@ -117,7 +120,7 @@ impl State {
     fn unready(n: u64, t: u64, l: u64, bytes: &[u8], memory: &[u8]) -> u8
         ensures { λ r. ⌜ r ≡ unready n t l (now (bytes .entry)) (now (memory .entry)) ⌝ }
     {
-        if !whole::limits(n, t, l) {
+        if !whole::limits(TOP, n, t, l) {
             return 1;
         }
         if !step::lengths_right(shaped(n, t, l), bytes, memory) {
@@ -288,14 +291,15 @@ impl State {
         whole::show_refusal(shape, k, trackers)
     }
 
-    // Leaf k's bit, read in the map block's line if it has one.
-    fn shown_bit(self, bytes: &[u8], memory: &[u8], k: u32) -> u8
-        requires { ⌜ (self .shape .n ≤ mostLeaves) × (self .shape .l ≤ mostLines) ⌝ }
-        ensures { λ r. ⌜ r ≡ shownBit (seen self) (now (bytes .entry)) (now (memory .entry)) k ⌝ }
+    // The bit over block k of level e, read in the line of the block that has it if there is one.
+    fn shown_bit(self, bytes: &[u8], memory: &[u8], e: u8, k: u32) -> u8
+        requires { ⌜ (inLimitsOf (topOf (self .shape)) (self .shape .n) ≡ true) × (e < topOf (self .shape)) × (self .shape .l ≤ mostLines) ⌝ }
+        ensures { λ r. ⌜ r ≡ shownBit (seen self) (now (bytes .entry)) (now (memory .entry)) e k ⌝ }
     {
         let shape = self.shape;
         let l = shape.l;
-        let j = line::line_of(&self.lines, l, Geometry::map_number(shape.n, k) as u32);
+        let above = Geometry::blocks_of(e, shape.n) + (Geometry::map_block_of(k) as u64);
+        let j = line::line_of(&self.lines, l, above as u32);
         if j < l {
             return block::bit_at(
                 bytes,
@@ -303,7 +307,25 @@ impl State {
                 Geometry::map_bit_of(k),
             );
         }
-        memory::leaf_bit(shape.n, memory, k)
+        memory::bit_over(e, shape.n, memory, k)
+    }
+
+    // Leaf k counts by the bits that are shown, each from the one over it to the top's.
+    fn shown_counts(self, bytes: &[u8], memory: &[u8], k: u32) -> bool
+        requires { ⌜ (inLimitsOf (topOf (self .shape)) (self .shape .n) ≡ true) × (self .shape .l ≤ mostLines) ⌝ }
+        ensures { λ r. ⌜ r ≡ shownCounts (seen self) (now (bytes .entry)) (now (memory .entry)) (topOf (self .shape)) 0 k ⌝ }
+    {
+        let top = self.shape.top();
+        let mut i = k;
+        let mut e: u8 = 0;
+        while e < top {
+            if self.shown_bit(bytes, memory, e, i) != 1 {
+                return false;
+            }
+            i = Geometry::map_block_of(i);
+            e += 1;
+        }
+        true
     }
 
     // Leaf k: the 64 bytes in its line; else, under bit 1, those in memory; under bit 0, and refused, an empty part of memory.
@@ -320,7 +342,7 @@ impl State {
             let at = Geometry::BLOCK_LEN * i;
             return &bytes[at..at + Geometry::BLOCK_LEN];
         }
-        if self.shown_bit(bytes, memory, leaf) == 1 {
+        if self.shown_counts(bytes, memory, leaf) {
             let at = Geometry::block_place(leaf);
             return &memory[at..at + Geometry::BLOCK_LEN];
         }

@@ -5,7 +5,7 @@ pub mod Round
 pub mod Lock
 pub mod Bound
 pub mod Levels
-pub mod TwoLevels
+pub mod Phases
 pub mod ByTable
 pub mod Ready
 pub mod Link

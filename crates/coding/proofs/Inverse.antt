@@ -19,10 +19,10 @@ use Rattle.tracker.specs.declared.Tracker.{Tracker}
 use Rattle.tracker.specs.Tracker.{idle, mostTurns}
 use Rattle.tracker.specs.Transfers.{mostTransfers}
 use Rattle.rules.specs.State.{State, trackerAt}
-use Rattle.coding.specs.Words.{trackerPlace, stateWords, phaseNumber, shapeCoded, trackerCoded, trackersCoded, coded, trackerIn, trackersTo, shapeIn, decoded, codesTracker, codesShape, codesLine, codes}
+use Rattle.coding.specs.Words.{trackerPlace, stateWords, phaseNumber, phaseOf, shapeCoded, trackerCoded, trackersCoded, coded, trackerIn, trackersTo, shapeIn, decoded, codesTracker, codesShape, codesLine, codes}
 use Rattle.coding.specs.Fields.{TrackerFits, Fits}
 use Rattle.laws.proofs.Stores.{part-4, part-8}
-use Rattle.coding.proofs.Trackers.{phaseNumber-phaseOf, phaseNumber-below, one-eqb, one-below, trackersTo-coded, trackers-append, trackers-one, trackers-split, length-before}
+use Rattle.coding.proofs.Trackers.{phaseNumber-phaseOf, phase-codes, coded-below, level-fits, one-eqb, one-below, trackersTo-coded, trackers-append, trackers-one, trackers-split, length-before}
 use Rattle.coding.proofs.Turns.{narrow, coding, length-trackersTo, length-coded}
 
 -- the words before the trackers
@@ -111,7 +111,7 @@ tracker-codes q r t f =
       getD-append-add q ws 7 0,
     )
     (both-true _ _ (both-true _ _
-    (both-true _ _ (lt-ltb (phaseNumber (t .phase)) 6 (phaseNumber-below (t .phase))) (both-true _ _ (lt-ltb (one (t .write)) 2 (one-below (t .write))) (lt-ltb (one (t .bottom)) 2 (one-below (t .bottom)))))
+    (both-true _ _ (phase-codes (t .phase) (f .level)) (both-true _ _ (lt-ltb (one (t .write)) 2 (one-below (t .write))) (lt-ltb (one (t .bottom)) 2 (one-below (t .bottom)))))
     (both-true _ _ (lt-ltb (t .group) values (f .group)) (both-true _ _ (lt-ltb (t .value) values (f .value)) (lt-ltb (t .turns) (suc mostTurns) (omega (arith, f .turns))))))
     (both-true _ _ (lt-ltb (t .transfers .fetched) (suc mostTransfers) (omega (arith, f .fetched))) (lt-ltb (t .transfers .back) (suc mostTransfers) (omega (arith, f .back)))))
 
@@ -147,7 +147,14 @@ tracker-fits w at q =
     let t = n .turns in
     let f = n .fetched in
     let b = n .back in
-    record { group = n .group; value = n .value; turns = omega arith; fetched = omega arith; back = omega arith }
+    record {
+      level = level-fits (phaseOf (getD w at 0)) (rw (phaseNumber-phaseOf (getD w at 0) (n .phase)) (coded-below (getD w at 0) (n .phase)));
+      group = n .group;
+      value = n .value;
+      turns = omega arith;
+      fetched = omega arith;
+      back = omega arith;
+    }
 
 trackersTo-front : (w : List ℕ) (x y : ℕ) → y < x → getD (trackersTo w (suc x)) y idle ≡ getD (trackersTo w x) y idle
 unfolding trackersTo

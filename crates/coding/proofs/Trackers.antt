@@ -2,46 +2,67 @@
 use mathlib.Core.Path.{_≡_, refl, ap, sym, _∙_}
 use mathlib.Core.List.{List, [], _∷_, _++_, append-assoc, append-nil}
 use mathlib.Core.Bool.{Bool, true, false}
-use Prim.Native.Nat.{ℕ, zero, suc, _+_, _*_, _≤_, _<_}
+use Prim.Native.Nat.{ℕ, zero, suc, _+_, _*_, _/_, _%_, _≤_, _<_}
 use native.Mathlib.Numerals.{add-one}
 use native.Mathlib.Omega.{arith}
 use lib.Dec.{eqb}
+use borrow.Author.Tests.{lt-ltb, ltb-true, eq-eqb, eqb-true}
 use lib.ListN.{length, take, drop, getD, length-append}
 use lib.Seq.{take-suc, getD-append-seam, getD-append-add, length-take-le, split-at}
 use Rattle.laws.specs.Choice.{one}
+use Rattle.laws.proofs.Choice.{both-true, both-left, both-right}
 use Rattle.tracker.specs.declared.Phase.{Phase}
-use Rattle.tracker.specs.declared.Phase.the-variants.{Idle, Probe, Map, Leaf, Set, Clear}
+use Rattle.tracker.specs.declared.Phase.the-variants.{Idle, Probe, Top, Under, Set, Clear}
 use Rattle.tracker.specs.declared.Tracker.{Tracker}
-use Rattle.tracker.specs.Tracker.{idle}
-use Rattle.coding.specs.Words.{phaseNumber, phaseOf, trackerPlace, trackerCoded, trackersCoded, trackerIn, trackersTo}
+use Rattle.tracker.specs.Tracker.{idle, levelOf}
+use Rattle.coding.specs.Words.{mostLevel, phaseNumber, phaseOf, codesPhase, trackerPlace, trackerCoded, trackersCoded, trackerIn, trackersTo}
 
--- a phase has one number, and a number below six one phase
+-- a phase has one number: which it is and its level are told apart
+which-of : (r d : ℕ) → r < 8 → (r + 8 * d) % 8 ≡ r
+which-of r d h = omega arith
+
+level-of : (r d : ℕ) → r < 8 → (r + 8 * d) / 8 ≡ d
+level-of r d h = omega arith
+
 pub phaseOf-phaseNumber : (p : Phase) → phaseOf (phaseNumber p) ≡ p
 unfolding phaseOf
 phaseOf-phaseNumber Idle = refl
-phaseOf-phaseNumber Probe = refl
-phaseOf-phaseNumber Map = refl
-phaseOf-phaseNumber Leaf = refl
-phaseOf-phaseNumber Set = refl
-phaseOf-phaseNumber Clear = refl
+phaseOf-phaseNumber (Probe d) = rw (which-of 1 d (omega arith), level-of 1 d (omega arith))
+phaseOf-phaseNumber Top = refl
+phaseOf-phaseNumber (Under d) = rw (which-of 3 d (omega arith), level-of 3 d (omega arith))
+phaseOf-phaseNumber (Set d) = rw (which-of 4 d (omega arith), level-of 4 d (omega arith))
+phaseOf-phaseNumber (Clear d) = rw (which-of 5 d (omega arith), level-of 5 d (omega arith))
 
-pub phaseNumber-phaseOf : (k : ℕ) → k < 6 → phaseNumber (phaseOf k) ≡ k
-unfolding phaseOf
-phaseNumber-phaseOf zero h = refl
-phaseNumber-phaseOf (suc zero) h = refl
-phaseNumber-phaseOf (suc (suc zero)) h = refl
-phaseNumber-phaseOf (suc (suc (suc zero))) h = refl
-phaseNumber-phaseOf (suc (suc (suc (suc zero)))) h = refl
-phaseNumber-phaseOf (suc (suc (suc (suc (suc zero))))) h = refl
-phaseNumber-phaseOf (suc (suc (suc (suc (suc (suc k)))))) h = absurd (omega arith)
+phaseNumber-below : (p : Phase) → levelOf p ≤ mostLevel → phaseNumber p < 8 * suc mostLevel
+phaseNumber-below Idle h = omega arith
+phaseNumber-below (Probe d) h = omega arith
+phaseNumber-below Top h = omega arith
+phaseNumber-below (Under d) h = omega arith
+phaseNumber-below (Set d) h = omega arith
+phaseNumber-below (Clear d) h = omega arith
 
-pub phaseNumber-below : (p : Phase) → phaseNumber p < 6
-phaseNumber-below Idle = omega arith
-phaseNumber-below Probe = omega arith
-phaseNumber-below Map = omega arith
-phaseNumber-below Leaf = omega arith
-phaseNumber-below Set = omega arith
-phaseNumber-below Clear = omega arith
+-- a phase whose level fits is coded by its number, and a word that codes a phase is its number
+pub phase-codes : (p : Phase) → levelOf p ≤ mostLevel → codesPhase (phaseNumber p) ≡ true
+unfolding codesPhase
+phase-codes p h = both-true _ _ (lt-ltb _ _ (phaseNumber-below p h)) (eq-eqb _ _ (ap phaseNumber (phaseOf-phaseNumber p)))
+
+module _ (k : ℕ) (h : codesPhase k ≡ true) where
+  pub coded-below : k < 8 * suc mostLevel
+  unfolding codesPhase
+  coded-below = ltb-true _ _ (both-left _ _ h)
+
+  pub phaseNumber-phaseOf : phaseNumber (phaseOf k) ≡ k
+  unfolding codesPhase
+  phaseNumber-phaseOf = eqb-true _ _ (both-right _ _ h)
+
+-- the level of a phase that has a small number is small
+pub level-fits : (p : Phase) → phaseNumber p < 8 * suc mostLevel → levelOf p ≤ mostLevel
+level-fits Idle h = omega arith
+level-fits (Probe d) h = omega arith
+level-fits Top h = omega arith
+level-fits (Under d) h = omega arith
+level-fits (Set d) h = omega arith
+level-fits (Clear d) h = omega arith
 
 -- so with a test and its word
 pub one-below : (b : Bool) → one b < 2

@@ -2,21 +2,21 @@
 use mathlib.Core.Path.{_≡_, refl, ap, sym, _∙_}
 use mathlib.Core.List.{List, [], _∷_, _++_, append-nil, append-assoc}
 use mathlib.Core.Bool.{Bool, true, false}
-use Prim.Native.Nat.{ℕ, zero, suc, _+_, _*_, _≤_, _<_}
+use Prim.Native.Nat.{ℕ, zero, suc, _+_, _*_, _/_, _%_, _≤_, _<_}
 use native.Mathlib.Numerals.{add-one}
 use native.Mathlib.Omega.{arith}
-use borrow.Author.Tests.{ltb-true, eqb-true, eq-eqb, ne-eqb}
+use borrow.Author.Tests.{lt-ltb, le-ltb, ltb-true, eqb-true, eq-eqb, ne-eqb}
 use lib.Dec.{eqb}
 use lib.ListN.{length, take, drop, getD, set, length-append, drop-of-length-le}
 use lib.Seq.{set-at, drop-cons, append-snoc, length-take-le, take-all}
-use Rattle.laws.specs.Choice.{pick}
+use Rattle.laws.specs.Choice.{pick, both}
 use Rattle.laws.specs.Bytes.{part, splice}
-use Rattle.laws.proofs.Choice.{both-left, both-right}
+use Rattle.laws.proofs.Choice.{both-left, both-right, both-false-left}
 use Rattle.laws.proofs.Scan.{all-at}
 use Rattle.laws.proofs.Splice.{length-part′}
 use Rattle.laws.proofs.Parts.{part-add}
 use Rattle.laws.proofs.Writes.{splice-then, splice-set}
-use Rattle.tracker.specs.declared.Phase.the-variants.{Idle, Probe, Map, Leaf, Set, Clear}
+use Rattle.tracker.specs.declared.Phase.the-variants.{Idle, Probe, Top, Under, Set, Clear}
 use Rattle.tracker.specs.declared.Tracker.{Tracker}
 use Rattle.tracker.specs.Tracker.{idle}
 use Rattle.rules.specs.State.{State}
@@ -24,39 +24,48 @@ use Rattle.tracker.specs.declared.Answer.{Answer}
 use Rattle.tracker.specs.declared.Transfers.{Transfers}
 use Rattle.tracker.specs.Answer.{says}
 use Rattle.coding.specs.Answer.{numberOf, saidCoded, answerCoded}
-use Rattle.coding.specs.Words.{trackerPlace, stateWords, shapeCoded, coded, phaseOf, trackerCoded, trackersCoded, trackerIn, trackersTo, codesTracker, codesLine, codes}
+use Rattle.coding.specs.Words.{trackerPlace, stateWords, shapeCoded, coded, mostLevel, phaseNumber, phaseOf, codesPhase, trackerCoded, trackersCoded, trackerIn, trackersTo, codesTracker, codesLine, codes}
 use Rattle.laws.proofs.Stores.{part-1, splice-all}
 use Rattle.coding.proofs.Trackers.{length-trackers, trackers-more}
 
 -- the phases by their tests
 module _ (k : ℕ) where
-  pub phase-1 : k ≡ 1 → Probe ≡ phaseOf k
+  pub phase-1 : k % 8 ≡ 1 → Probe (k / 8) ≡ phaseOf k
   unfolding phaseOf
   phase-1 e = rw e
 
-  pub phase-2 : k ≡ 2 → Map ≡ phaseOf k
+  pub phase-2 : k % 8 ≡ 2 → Top ≡ phaseOf k
   unfolding phaseOf
   phase-2 e = rw e
 
-  pub phase-3 : k ≡ 3 → Leaf ≡ phaseOf k
+  pub phase-3 : k % 8 ≡ 3 → Under (k / 8) ≡ phaseOf k
   unfolding phaseOf
   phase-3 e = rw e
 
-  pub phase-4 : k ≡ 4 → Set ≡ phaseOf k
+  pub phase-4 : k % 8 ≡ 4 → Set (k / 8) ≡ phaseOf k
   unfolding phaseOf
   phase-4 e = rw e
 
-  pub phase-5 : k ≡ 5 → Clear ≡ phaseOf k
+  pub phase-5 : k % 8 ≡ 5 → Clear (k / 8) ≡ phaseOf k
   unfolding phaseOf
   phase-5 e = rw e
 
-  pub phase-0 : (k ≡ 1 → ⊥) → (k ≡ 2 → ⊥) → (k ≡ 3 → ⊥) → (k ≡ 4 → ⊥) → (k ≡ 5 → ⊥) → Idle ≡ phaseOf k
+  pub phase-0 : (k % 8 ≡ 1 → ⊥) → (k % 8 ≡ 2 → ⊥) → (k % 8 ≡ 3 → ⊥) → (k % 8 ≡ 4 → ⊥) → (k % 8 ≡ 5 → ⊥) → Idle ≡ phaseOf k
   unfolding phaseOf
-  phase-0 a b c d e = rw (ne-eqb k 1 a, ne-eqb k 2 b, ne-eqb k 3 c, ne-eqb k 4 d, ne-eqb k 5 e)
+  phase-0 a b c d e = rw (ne-eqb _ _ a, ne-eqb _ _ b, ne-eqb _ _ c, ne-eqb _ _ d, ne-eqb _ _ e)
+
+  -- a word that is too large, and one that is not
+  pub codes-large : 8 * suc mostLevel ≤ k → codesPhase k ≡ false
+  unfolding codesPhase
+  codes-large h = both-false-left _ _ (le-ltb _ _ h)
+
+  pub codes-small : k < 8 * suc mostLevel → codesPhase k ≡ eqb (phaseNumber (phaseOf k)) k
+  unfolding codesPhase both
+  codes-small h = rw (lt-ltb _ _ h)
 
 -- what the words of a tracker are below
 pub record Narrow (w : List ℕ) (at : ℕ) : Type 0 where
-  pub phase : getD w at 0 < 6
+  pub phase : codesPhase (getD w at 0) ≡ true
   pub write : getD w (at + 1) 0 < 2
   pub bottom : getD w (at + 2) 0 < 2
   pub group : getD w (at + 3) 0 < 4294967296
@@ -75,7 +84,7 @@ narrow w at h =
     let a' = both-right _ _ a in
     let b' = both-right _ _ b in
     record {
-      phase = ltb-true _ _ (both-left _ _ a);
+      phase = both-left _ _ a;
       write = ltb-true _ _ (both-left _ _ a');
       bottom = ltb-true _ _ (both-right _ _ a');
       group = ltb-true _ _ (both-left _ _ b);

@@ -1,7 +1,7 @@
 -- A state as words, for a caller that lends it: n, T, L, the hand, the 64 lines, and the words of each of the 8 trackers.
 use mathlib.Core.List.{List, [], _∷_, _++_}
 use mathlib.Core.Bool.{Bool}
-use Prim.Native.Nat.{ℕ, zero, suc, _+_, _*_}
+use Prim.Native.Nat.{ℕ, zero, suc, _+_, _*_, _/_, _%_}
 use lib.Dec.{eqb, ltb}
 use lib.ListN.{length, getD}
 use Rattle.laws.specs.Choice.{pick, both, one}
@@ -10,7 +10,7 @@ use Rattle.laws.specs.Bytes.{part}
 use Rattle.geometry.specs.TagMemory.{values, mostTrackers, mostLines}
 use Rattle.geometry.specs.declared.Shape.{Shape}
 use Rattle.tracker.specs.declared.Phase.{Phase}
-use Rattle.tracker.specs.declared.Phase.the-variants.{Idle, Probe, Map, Leaf, Set, Clear}
+use Rattle.tracker.specs.declared.Phase.the-variants.{Idle, Probe, Top, Under, Set, Clear}
 use Rattle.tracker.specs.declared.Tracker.{Tracker}
 use Rattle.tracker.specs.Tracker.{mostTurns}
 use Rattle.tracker.specs.Transfers.{mostTransfers}
@@ -19,6 +19,10 @@ use Rattle.rules.specs.State.{State}
 -- the words of a tracker: its phase, whether it writes, whether it is bottom-up, its group, its value, its turns, the blocks fetched for it and written back
 abbrev pub trackerWords : ℕ
 trackerWords = 8
+
+-- the most that a level's 8 bits hold
+abbrev pub mostLevel : ℕ
+mostLevel = 255
 
 -- where the lines begin, and tracker x
 abbrev pub linesPlace : ℕ
@@ -31,17 +35,14 @@ trackerPlace x = linesPlace + mostLines + trackerWords * x
 abbrev pub stateWords : ℕ
 stateWords = trackerPlace mostTrackers
 
--- the number of a phase
+-- the number of a phase: which it is, and eight times its level
 abbrev pub phaseNumber : Phase → ℕ
 phaseNumber Idle = 0
-phaseNumber Probe = 1
-phaseNumber Map = 2
-phaseNumber Leaf = 3
-phaseNumber Set = 4
-phaseNumber Clear = 5
-
-abbrev pub phases : ℕ
-phases = 6
+phaseNumber (Probe d) = 1 + 8 * d
+phaseNumber Top = 2
+phaseNumber (Under d) = 3 + 8 * d
+phaseNumber (Set d) = 4 + 8 * d
+phaseNumber (Clear d) = 5 + 8 * d
 
 unfoldable pub trackerCoded : Tracker → List ℕ
 trackerCoded t = phaseNumber (t .phase) ∷ one (t .write) ∷ one (t .bottom) ∷ t .group ∷ t .value ∷ t .turns ∷ t .transfers .fetched ∷ t .transfers .back ∷ []
@@ -57,9 +58,15 @@ shapeCoded s = s .n ∷ s .t ∷ s .l ∷ s .hand ∷ []
 unfoldable pub coded : State → List ℕ
 coded s = shapeCoded (s .shape) ++ (s .lines ++ trackersCoded (s .trackers))
 
--- the phase that has a number
+-- the phase that has a number; a level has 8 bits in a state
 unfoldable pub phaseOf : ℕ → Phase
-phaseOf k = pick (eqb k 1) Probe (pick (eqb k 2) Map (pick (eqb k 3) Leaf (pick (eqb k 4) Set (pick (eqb k 5) Clear Idle))))
+phaseOf k =
+    let which = k % 8 in
+    let level = k / 8 in
+    pick (eqb which 1) (Probe level) (pick (eqb which 2) Top (pick (eqb which 3) (Under level) (pick (eqb which 4) (Set level) (pick (eqb which 5) (Clear level) Idle))))
+
+unfoldable pub codesPhase : ℕ → Bool
+codesPhase k = both (ltb k (8 * suc mostLevel)) (eqb (phaseNumber (phaseOf k)) k)
 
 -- the tracker that the words from `at` on code
 unfoldable pub trackerIn : List ℕ → ℕ → Tracker
@@ -90,10 +97,10 @@ decoded w = record {
   trackers = trackersTo w mostTrackers;
 }
 
--- no word from `at` on is too wide for its field of a tracker
+-- the first word from `at` on is a phase's, and none is too wide for its field of a tracker
 unfoldable pub codesTracker : List ℕ → ℕ → Bool
 codesTracker w at =
-    both (both (both (ltb (getD w at 0) phases) (both (ltb (getD w (at + 1) 0) 2) (ltb (getD w (at + 2) 0) 2)))
+    both (both (both (codesPhase (getD w at 0)) (both (ltb (getD w (at + 1) 0) 2) (ltb (getD w (at + 2) 0) 2)))
     (both (ltb (getD w (at + 3) 0) values) (both (ltb (getD w (at + 4) 0) values) (ltb (getD w (at + 5) 0) (suc mostTurns)))))
     (both (ltb (getD w (at + 6) 0) (suc mostTransfers)) (ltb (getD w (at + 7) 0) (suc mostTransfers)))
 

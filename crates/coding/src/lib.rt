@@ -9,7 +9,7 @@ use tracker::Tracker;
 use tracker::Transfers;
 ghost use mathlib.Core.Path.{_≡_};
 ghost use mathlib.Core.Bool.{true};
-ghost use Prim.Native.Nat.{_+_, _≤_};
+ghost use Prim.Native.Nat.{suc, _+_, _*_, _≤_, _<_};
 ghost use lib.Dec.{eqb};
 ghost use lib.ListN.{length};
 ghost use Rattle.laws.specs.Choice.{pick, one};
@@ -19,7 +19,7 @@ ghost use Rattle.geometry.specs.TagMemory.{mostLines, mostTrackers};
 ghost use Rattle.tracker.specs.Answer.{says};
 ghost use Rattle.rules.specs.State.{zeroState};
 ghost use Rattle.cache.specs.Seen.{seen};
-ghost use Rattle.coding.specs.Words.{trackerWords, linesPlace, trackerPlace, stateWords, phaseNumber, trackerCoded, trackersCoded, shapeCoded, coded, phaseOf, trackerIn, trackersTo, shapeIn, decoded, codesTracker, codesLine, codes};
+ghost use Rattle.coding.specs.Words.{trackerWords, linesPlace, trackerPlace, stateWords, mostLevel, phaseNumber, codesPhase, trackerCoded, trackersCoded, shapeCoded, coded, phaseOf, trackerIn, trackersTo, shapeIn, decoded, codesTracker, codesLine, codes};
 ghost use Rattle.coding.specs.Answer.{numberOf, answerWords, answerOf, saidCoded, answerCoded};
 
 // The words of a tracker.
@@ -46,8 +46,8 @@ const BITS_16: u64 = 65536;
 
 const BITS_8: u64 = 256;
 
-// The phases.
-const PHASES: u64 = 6;
+// The phases without their level, of which there is room for eight.
+const PHASES: u64 = 8;
 
 // What words code: a state, or none. Where they code none the state is zero throughout, which is broken.
 pub struct Decoded {
@@ -55,43 +55,56 @@ pub struct Decoded {
     pub state: State,
 }
 
-// The number of a phase.
+// The number of a phase: which it is, and eight times its level.
 fn phase_number(phase: Phase) -> u64
     ensures { λ r. ⌜ r ≡ phaseNumber phase ⌝ }
 {
     match phase {
         Phase::Idle => 0,
-        Phase::Probe => 1,
-        Phase::Map => 2,
-        Phase::Leaf => 3,
-        Phase::Set => 4,
-        Phase::Clear => 5,
+        Phase::Probe(d) => 1 + PHASES * (d as u64),
+        Phase::Top => 2,
+        Phase::Under(d) => 3 + PHASES * (d as u64),
+        Phase::Set(d) => 4 + PHASES * (d as u64),
+        Phase::Clear(d) => 5 + PHASES * (d as u64),
     }
 }
 
 // The phase that has a number.
 fn phase_of(k: u64) -> Phase
+    requires { ⌜ k < 8 * suc mostLevel ⌝ }
     ensures { λ r. ⌜ r ≡ phaseOf k ⌝ }
 {
-    if k == 1 {
-        return Phase::Probe;
+    let which = k % PHASES;
+    let level = (k / PHASES) as u8;
+    if which == 1 {
+        return Phase::Probe(level);
     }
-    if k == 2 {
-        return Phase::Map;
+    if which == 2 {
+        return Phase::Top;
     }
-    if k == 3 {
-        return Phase::Leaf;
+    if which == 3 {
+        return Phase::Under(level);
     }
-    if k == 4 {
-        return Phase::Set;
+    if which == 4 {
+        return Phase::Set(level);
     }
-    if k == 5 {
-        return Phase::Clear;
+    if which == 5 {
+        return Phase::Clear(level);
     }
     Phase::Idle
 }
 
-// No word from `at` on is too wide for its field of a tracker.
+// A word is a phase's number.
+fn codes_phase(k: u64) -> bool
+    ensures { λ r. ⌜ r ≡ codesPhase k ⌝ }
+{
+    if PHASES * BITS_8 <= k {
+        return false;
+    }
+    phase_number(phase_of(k)) == k
+}
+
+// The first word from `at` on is a phase's, and none is too wide for its field of a tracker.
 fn codes_tracker(words: &[u64], at: usize) -> bool
     requires { ⌜ at + trackerWords ≤ length (now words) ⌝ }
     ensures { λ r. ⌜ r ≡ codesTracker (now (words .entry)) at ⌝ }
@@ -99,7 +112,7 @@ fn codes_tracker(words: &[u64], at: usize) -> bool
     laws::both(
         laws::both(
             laws::both(
-                words[at] < PHASES,
+                codes_phase(words[at]),
                 laws::both(words[at + 1] < 2, words[at + 2] < 2),
             ),
             laws::both(

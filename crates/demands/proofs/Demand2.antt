@@ -11,9 +11,10 @@ use Rattle.tracker.specs.declared.Access.{Access}
 use Rattle.laws.specs.Choice.{pick, both}
 use Rattle.laws.proofs.Choice.{not-both-ways}
 use Rattle.laws.proofs.Splice.{lt-or-ge}
+use Rattle.geometry.specs.Shape.{belowTop, topOf}
 use Rattle.geometry.specs.TagMemory.{groups, inLimits, memoryLength}
-use Rattle.memory.specs.PlainReading.{plainGroup, plainReading}
-use Rattle.memory.specs.True.{isTrue}
+use Rattle.memory.specs.PlainReading.{plainGroupOf, plainGroup, plainReading}
+use Rattle.memory.specs.True.{isTrueOf, isTrue}
 use Rattle.memory.proofs.Reading.{accepted}
 use Rattle.tracker.specs.Tracker.{isIdle, isIdleAt}
 use Rattle.tracker.specs.Answer.{Said}
@@ -37,7 +38,7 @@ use Rattle.demands.proofs.Log.{Move, begins, ends, neither, moveOf, tur
 use Rattle.demands.proofs.Watch.{Watch, nothingYet, watched, logged, logOf}
 use Rattle.demands.proofs.Machine.{Linked, callsOf, History, linked, idle-none}
 use Rattle.demands.proofs.Start.{Begun, begun, session-values}
-use Rattle.demands.proofs.Noted.{true-idle, Noted, noted-run, busy-run}
+use Rattle.demands.proofs.Noted.{true-idle, Noted, run-shape, noted-run, busy-run}
 use Rattle.demands.proofs.Quiet.{Quiet, quiet-run}
 use Rattle.demands.proofs.Drained.{drained-idle, drained-clean}
 use Rattle.demands.proofs.Extends.{onto-after, given-then}
@@ -156,13 +157,22 @@ pub record Resting (n : ℕ) (memory : List ℕ) (row : Row) : Type 0 where
   pub is-true : isTrue n memory ≡ true
   pub reads : (g : ℕ) → plainGroup n memory g ≡ row g
 
+-- 01's memory has the top level 1
+plain-two : (n : ℕ) (memory : List ℕ) (g : ℕ) → plainGroupOf 1 n memory g ≡ plainGroup n memory g
+unfolding plainGroup
+plain-two n memory g = refl
+
+true-two : (n : ℕ) (memory : List ℕ) → isTrueOf 1 n memory ≡ isTrue n memory
+unfolding isTrue
+true-two n memory = refl
+
 -- a run of the rules from the start
 module _ (t : ℕ) (k : Kept) (B : Begun t k) (cs : List Call) (v32 : Values32 cs) where
   abbrev n : ℕ
   n = k .state .shape .n
 
   abbrev start : Row
-  start = plainGroup (k .state .shape .n) (k .memory)
+  start = plainGroupOf (topOf (k .state .shape)) (k .state .shape .n) (k .memory)
 
   abbrev es : List Event
   es = events cs (answers k cs)
@@ -210,10 +220,10 @@ module _ (t : ℕ) (k : Kept) (B : Begun t k) (cs : List Call) (v32 : Values32 c
 
   -- the memory at first
   lim : inLimits n ≡ true
-  lim = inLimits-of (k .state .shape) (whole-facts (k .state) (B .agrees .is-whole) .limits-ok)
+  lim = rw (B .levels) at (inLimits-of (k .state .shape) (whole-facts (k .state) (B .agrees .is-whole) .limits-ok))
 
-  reads-first : (g : ℕ) → g < groups n → plainReading n (k .memory) g ≡ plainGroup n (k .memory) g
-  reads-first g q = plain-is n (k .memory) g lim (memory-right (k .state .shape) (k .bytes) (k .memory) (B .agrees .right)) q
+  reads-first : (g : ℕ) → g < groups n → plainReading n (k .memory) g ≡ start g
+  reads-first g q = rw (B .levels) (plain-is n (k .memory) g lim (rw (B .levels) at (memory-right (k .state .shape) (k .bytes) (k .memory) (B .agrees .right))) q ∙ sym (plain-two n (k .memory) g))
 
   rows-are : (g p : ℕ) → g < groups n → rowAt start (λ q. w .log q .access) p g ≡ rowOf n (k .memory) (logOf w) p g
   rows-are g p l = same-at start (plainReading n (k .memory)) (λ q. w .log q .access) g p (sym (reads-first g l))
@@ -232,12 +242,15 @@ module _ (t : ℕ) (k : Kept) (B : Begun t k) (cs : List Call) (v32 : Values32 c
 
   pub resting : AtRest es → Resting n (ended k cs .memory) (run .last)
   resting r = subst (λ (m : ℕ). Resting m (ended k cs .memory) (run .last)) (run .n-is) (record {
-    limits = inLimits-of (ended k cs .state .shape) (whole-facts (ended k cs .state) (run .ok-still .is-whole) .limits-ok);
-    long = memory-right (ended k cs .state .shape) (ended k cs .bytes) (ended k cs .memory) (run .ok-still .right);
-    is-true = reads-true (run .ok-still .agrees) (λ x. idle x (r .idle x)) (λ i _. quiet .clean i);
-    reads = reads-row (run .ok-still .agrees) (λ x. idle x (r .idle x)) (λ i _. quiet .clean i);
+    limits = rw levels at (inLimits-of (ended k cs .state .shape) (whole-facts (ended k cs .state) (run .ok-still .is-whole) .limits-ok));
+    long = rw levels at (memory-right (ended k cs .state .shape) (ended k cs .bytes) (ended k cs .memory) (run .ok-still .right));
+    is-true = sym (true-two _ _) ∙ (rw levels at (reads-true (run .ok-still .agrees) (λ x. idle x (r .idle x)) (λ i _. quiet .clean i)));
+    reads = λ g. sym (plain-two _ _ g) ∙ (rw levels at (reads-row (run .ok-still .agrees) (λ x. idle x (r .idle x)) (λ i _. quiet .clean i) g));
   })
     where
+      levels : belowTop (ended k cs .state .shape) ≡ 0
+      levels = run-shape k (first-noted .ready) cs .levels ∙ B .levels
+
       quiet : Quiet (ended k cs)
       quiet = quiet-run cs k start (B .agrees) v32 false
           (λ _. record { clean = B .clean; reads = λ x b. absurd (not-both-ways (ap isIdleAt (B .idle x)) b) }) (r .clean)
@@ -269,7 +282,7 @@ pub extends : (t : ℕ) (k : Kept) → Begun t k → (cs ds : List Call) → Val
 extends t k B cs ds v =
     let z : 0 + length (given k cs) ≡ length cs = omega (arith, length-given k cs) in
     let h = subst (λ (gs : List Given). History (seen t k B (cs ++ ds) v) 0 (flatOf k) gs) (given-then cs ds k) (history t k B (cs ++ ds) v) in
-    let e = onto-after (seen t k B (cs ++ ds) v) (k .state .shape .n) (plainGroup (k .state .shape .n) (k .memory)) (given k cs) (given (ended k cs) ds) (flatOf k) nothingYet 0 (at-first t k B (cs ++ ds) v) h in
+    let e = onto-after (seen t k B (cs ++ ds) v) (k .state .shape .n) (plainGroupOf (topOf (k .state .shape)) (k .state .shape .n) (k .memory)) (given k cs) (given (ended k cs) ds) (flatOf k) nothingYet 0 (at-first t k B (cs ++ ds) v) h in
     subst (λ (gs : List Given). Extends (length cs) (logOf (logged k cs)) (logOf (watched 0 (flatOf k) nothingYet gs))) (sym (given-then cs ds k))
     (subst (λ (m : ℕ). Extends m (logOf (logged k cs)) (logOf (watched 0 (flatOf k) nothingYet (given k cs ++ given (ended k cs) ds)))) z e)
 

@@ -1,23 +1,23 @@
 -- A run whose turns go round the circle, seen by its events, is a run under the circle of `circle`; and its notes are in time.
 use mathlib.Core.Path.{_≡_, refl, sym, ap, _∙_, subst}
 use mathlib.Core.Bool.{Bool, true, false}
-use mathlib.Core.List.{List, [], _∷_}
 use Prim.Native.Nat.{ℕ, suc, _<_, _≤_}
 use native.Mathlib.Omega.{arith}
 use native.Mathlib.Decide.{ℕ-discrete}
 use Rattle.laws.proofs.Choice.{not-both-ways}
+use Rattle.geometry.specs.Shape.{belowTop}
 use Rattle.tracker.specs.declared.Tracker.{Tracker}
 use Rattle.tracker.specs.Tracker.{isIdle, tick}
 use Rattle.tracker.specs.Answer.{ok}
 use Rattle.rules.specs.Calls.{Out}
-use Rattle.rules.specs.Run.{Call, issues, steps, drains, Kept, kept, does, ended}
+use Rattle.rules.specs.Run.{Call, issues, steps, drains, Kept, kept, does}
 use Rattle.circle.specs.Order.{next, Order, becomes}
-use Rattle.circle.specs.LastTurn.{lastTurn}
+use Rattle.circle.specs.LastTurn.{bound}
 use Rattle.circle.proofs.Circle.{trackerIn, Circle}
 use Rattle.circle.proofs.Circle as Circle
 use Rattle.circle.proofs.Round.{next-in}
 use Rattle.circle.proofs.Becomes.{becomes-same, becomes-other}
-use Rattle.circle.proofs.Ready.{Ready, busy-below}
+use Rattle.circle.proofs.Ready.{busy-below}
 use Rattle.circle.proofs.Calls.{bare, Outcome, outcome}
 use Rattle.circle.proofs.Calls as Calls
 use Rattle.circle.proofs.LongestWait.{longest-wait}
@@ -25,29 +25,19 @@ use Rattle.demands.specs.Event.{Event, event, TurnOf}
 use Rattle.demands.specs.Circle.{Note, other, busy, answered, isBusy, wentOn, noted, NoTurn}
 use Rattle.demands.specs.Circle as Notes
 use Rattle.demands.specs.Demand3.{InTime}
-use Rattle.demands.proofs.Noted.{True, true-busy, true-idle, Turn, went, over, turn-tracker, turn-turns, event-bare, Noted, step-turn, noted-call}
+use Rattle.demands.proofs.Noted.{True, true-busy, true-idle, Turn, went, over, turn-tracker, turn-turns, event-bare, Noted, step-turn, call-shape, noted-call}
 
--- no call changes the number of trackers
-call-count : (k : Kept) → Ready k → (c : Call) → kept (does k c) .state .shape .t ≡ k .state .shape .t
-call-count k s c = at (bare c) (does k c) (outcome k s c)
-  where
-    at : (c' : Call) (o : Out) → Outcome k c' o → o .state .shape .t ≡ k .state .shape .t
-    at c' o (Calls.refused r q z) = ap (λ (a : Kept). a .state .shape .t) z
-    at c' o (Calls.issued x access h e is) = ap (λ (a : Out). a .state .shape .t) is
-    at c' o (Calls.stepped x h b) = step-turn k s x h b .1 .count
-    at c' o (Calls.drained q is) = ap (λ (a : Out). a .state .shape .t) is
+-- on a device with this level below the top
+module _ (below t : ℕ) (o : Order t) where
+  -- the last turn of an access
+  abbrev last : (write bottom : Bool) → ℕ
+  last = bound (suc (suc below)) t
 
-pub run-count : (k : Kept) (notes : ℕ → Note) → Noted k notes → (cs : List Call) → ended k cs .state .shape .t ≡ k .state .shape .t
-unfolding ended
-run-count k notes K [] = refl
-run-count k notes K (c ∷ cs) = run-count (kept (does k c)) (noted (event c (does k c .said)) notes) (noted-call k notes K c) cs ∙ call-count k (K .ready) c
-
-module _ (t : ℕ) (o : Order t) where
   -- what the circle's own marks are to a note
   abbrev Marked : Note → (given : ℕ) (under : Bool) → Type 0
   Marked (other b) g u = Unit {0}
   Marked (busy write bottom given) g u = (g ≡ given) × (u ≡ true)
-  Marked (answered write bottom given turns) g u = given ≤ lastTurn t write bottom
+  Marked (answered write bottom given turns) g u = given ≤ last write bottom
 
   pub record Going (k : Kept) (i : ℕ) (notes : ℕ → Note) : Type 0 where
     pub given : ℕ → ℕ
@@ -55,6 +45,7 @@ module _ (t : ℕ) (o : Order t) where
     pub circle : Circle t o k i given under
     pub is-noted : Noted k notes
     pub marked : (x : ℕ) → Marked (notes x) (given x) (under x)
+    pub levels : belowTop (k .state .shape) ≡ below
     pub count : k .state .shape .t ≡ t
     pub place : i < t
 
@@ -63,13 +54,14 @@ module _ (t : ℕ) (o : Order t) where
   begun-true note false u e h = true-idle note u h e
 
   -- it may begin at any time
-  pub going-begins : (k : Kept) (i : ℕ) (notes : ℕ → Note) (busies : ℕ → Bool) → ((x : ℕ) → isBusy (notes x) ≡ busies x) → Noted k notes → k .state .shape .t ≡ t → i < t → Going k i (λ x. other (busies x))
-  going-begins k i notes busies e K c h = record {
+  pub going-begins : (k : Kept) (i : ℕ) (notes : ℕ → Note) (busies : ℕ → Bool) → ((x : ℕ) → isBusy (notes x) ≡ busies x) → Noted k notes → belowTop (k .state .shape) ≡ below → k .state .shape .t ≡ t → i < t → Going k i (λ x. other (busies x))
+  going-begins k i notes busies e K z c h = record {
     given = λ x. 0;
     under = λ x. false;
     circle = Circle.begins k i (λ x. 0) c (K .ready .0) (K .ready .1) h;
     is-noted = record { ready = K .ready; is-so = λ x. begun-true (notes x) (busies x) (trackerIn k x) (e x) (K .is-so x) };
     marked = λ x. tt;
+    levels = z;
     count = c;
     place = h;
   }
@@ -79,27 +71,27 @@ module _ (t : ℕ) (o : Order t) where
   marked-went (busy write bottom given) g u m = (ap suc (m .0), m .1)
   marked-went (answered write bottom given turns) g u m = m
 
-  marked-over : (note : Note) (k g : ℕ) (u : Bool) → InTime (lastTurn t) note → Marked note g u → Marked (Notes.ended k note) (suc g) u
+  marked-over : (note : Note) (k g : ℕ) (u : Bool) → InTime last note → Marked note g u → Marked (Notes.ended k note) (suc g) u
   marked-over (other b) k g u l m = tt
   marked-over (busy write bottom given) k g u l m = l
   marked-over (answered write bottom given turns) k g u l m = m
 
   module _ (k : Kept) (i : ℕ) (notes : ℕ → Note) (G : Going k i notes) where
-    below : (x : ℕ) → isIdle (trackerIn k x) ≡ false → x < t
-    below x b = let h = busy-below k (G .is-noted .ready) x b in let c = G .count in omega arith
+    in-shape : (x : ℕ) → isIdle (trackerIn k x) ≡ false → x < t
+    in-shape x b = let h = busy-below k (G .is-noted .ready) x b in let c = G .count in omega arith
 
     pub busy-in : (x : ℕ) → isBusy (notes x) ≡ true → x < t
-    busy-in x b = below x (true-busy (notes x) (trackerIn k x) (G .is-noted .is-so x) b)
+    busy-in x b = in-shape x (true-busy (notes x) (trackerIn k x) (G .is-noted .is-so x) b)
 
-    time-of : (note : Note) (x : ℕ) → True note (trackerIn k x) → Marked note (G .given x) (G .under x) → InTime (lastTurn t) note
+    time-of : (note : Note) (x : ℕ) → True note (trackerIn k x) → Marked note (G .given x) (G .under x) → InTime last note
     time-of (other b) x h m = tt
     time-of (busy write bottom given) x h m =
-        let l : G .given x < lastTurn t (trackerIn k x .write) (trackerIn k x .bottom) =
-        longest-wait t o k i (G .given) (G .under) (G .circle) .busy x (below x (h .is-busy)) (m .1) (h .is-busy) in
+        let l : G .given x < last (trackerIn k x .write) (trackerIn k x .bottom) =
+        rw (G .levels) at (longest-wait t o k i (G .given) (G .under) (G .circle) .busy x (in-shape x (h .is-busy)) (m .1) (h .is-busy)) in
         rw (sym (m .0), sym (h .write-is), sym (h .bottom-is)) l
     time-of (answered write bottom given turns) x h m = m
 
-    pub time : (x : ℕ) → InTime (lastTurn t) (notes x)
+    pub time : (x : ℕ) → InTime last (notes x)
     time x = time-of (notes x) x (G .is-noted .is-so x) (G .marked x)
 
     pub step-accepted : (x : ℕ) → isBusy (notes x) ≡ true → TurnOf x (event (steps x) (does k (steps x) .said))
@@ -115,6 +107,7 @@ module _ (t : ℕ) (o : Order t) where
       circle = Circle.passed (G .circle) (true-idle (notes (o .tracker i)) (trackerIn k (o .tracker i)) (G .is-noted .is-so (o .tracker i)) b);
       is-noted = G .is-noted;
       marked = G .marked;
+      levels = G .levels;
       count = G .count;
       place = next-in t i (G .place);
     }
@@ -148,7 +141,8 @@ module _ (t : ℕ) (o : Order t) where
           circle = Circle.turned (G .circle) q;
           is-noted = noted-call k notes (G .is-noted) (steps x);
           marked = marks-turn x (r .0) (event (steps x) (does k (steps x) .said)) (r .2);
-          count = call-count k (G .is-noted .ready) (steps x) ∙ G .count;
+          levels = call-shape k (G .is-noted .ready) (steps x) .levels ∙ G .levels;
+          count = call-shape k (G .is-noted .ready) (steps x) .count ∙ G .count;
           place = next-in t i (G .place);
         }
 
@@ -220,7 +214,8 @@ module _ (t : ℕ) (o : Order t) where
           circle = r .circle';
           is-noted = noted-call k notes (G .is-noted) c;
           marked = r .marked';
-          count = call-count k (G .is-noted .ready) c ∙ G .count;
+          levels = call-shape k (G .is-noted .ready) c .levels ∙ G .levels;
+          count = call-shape k (G .is-noted .ready) c .count ∙ G .count;
           place = G .place;
         }
 

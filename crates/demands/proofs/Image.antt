@@ -10,7 +10,7 @@ use lib.ListN.{length}
 use borrow.Author.Tests.{leb-true}
 use Rattle.laws.specs.Bytes.{Bytes}
 use Rattle.laws.proofs.Choice.{both-right, true-or-false}
-use Rattle.geometry.specs.TagMemory.{inLimits, memoryLength}
+use Rattle.geometry.specs.TagMemory.{inLimitsOf, inLimits, memoryLength}
 use Rattle.memory.specs.PlainReading.{plainReading}
 use Rattle.memory.specs.True.{isTrue}
 use Rattle.rules.specs.Run.{Kept}
@@ -39,7 +39,7 @@ not-refused n memory output q = go (writingRefusal n memory (length output)) ref
     go (suc c) e = absurd (omega (arith, writing.refused n memory output c e .0))
 
 few-leaves : (n : ℕ) → inLimits n ≡ true → n ≤ 262144
-unfolding inLimits
+unfolding inLimitsOf
 few-leaves n h = leb-true n 262144 (both-right _ _ h)
 
 -- a true memory

@@ -2,10 +2,11 @@
 use mathlib.Core.Path.{_≡_, refl, sym, ap, _∙_, subst}
 use mathlib.Core.Bool.{Bool, true, false}
 use mathlib.Core.List.{List, [], _∷_}
-use Prim.Native.Nat.{ℕ, suc, _+_, _≤_, _<_}
+use mathlib.Core.Logic.{_⊎_, inl, inr}
+use Prim.Native.Nat.{ℕ, zero, suc, _+_, _≤_, _<_}
 use native.Mathlib.Omega.{arith}
 use native.Mathlib.Decide.{ℕ-discrete}
-use lib.Dec.{eqb}
+use lib.Dec.{eqb, ltb}
 use lib.ListN.{length, set, length-set}
 use lib.Seq.{getD-set-same, getD-set-other}
 use borrow.Author.Tests.{ltb-true, not-true}
@@ -14,18 +15,19 @@ use Rattle.laws.proofs.Refusal.{refusal-hold, unless-by}
 use Rattle.rules.specs.Calls.{issueTests, stepTests}
 use Rattle.laws.specs.Choice.{pick, both, implies, no as negated}
 use Rattle.laws.proofs.Choice.{not-both-ways, pick-by}
+use Rattle.geometry.specs.Shape.{belowTop}
 use Rattle.geometry.specs.TagMemory.{leafOf, groups}
 use Rattle.tracker.specs.declared.Phase.{Phase}
-use Rattle.tracker.specs.declared.Phase.the-variants.{Idle, Probe, Map, Leaf, Set, Clear}
+use Rattle.tracker.specs.declared.Phase.the-variants.{Idle, Probe, Top, Under, Set, Clear}
 use Rattle.tracker.specs.declared.Transfers.{Transfers}
 use Rattle.tracker.specs.declared.Tracker.{Tracker}
-use Rattle.tracker.specs.Tracker.{idle, isIdle, isIdleAt, atFinish, issued, firstPhase, at, counted}
+use Rattle.tracker.specs.Tracker.{idle, isIdle, isIdleAt, atFinish, issued, firstPhase, afterProbe, at, counted}
 use Rattle.tracker.proofs.Phases.{idle-unfinished}
 use Rattle.tracker.specs.Answer.{Said, ok}
 use Rattle.rules.specs.State.{trackerAt, lengthsRight}
 use Rattle.rules.specs.Run.{Call, issues, steps, drains, lends}
 use Rattle.flat.specs.Flat as flat
-use Rattle.flat.specs.Flat.{tagged, changesNothing, Course, byTags, course, courseOf, says, rowBy, trackerBy, effectBy, Flat, withRow, Unseen, Given, Reply, flatIssue, flatStep, flatDrain, flatDoes, flatAnswers, flatEnded}
+use Rattle.flat.specs.Flat.{tagged, changesNothing, hasTag, othersHave, Course, byTags, course, courseOf, says, rowBy, trackerBy, effectBy, Flat, withRow, Unseen, Given, Reply, flatIssue, flatStep, flatDrain, flatDoes, flatAnswers, flatEnded}
 use Rattle.demands.specs.Event.{Told, event, events, eventAt}
 use Rattle.demands.specs.Row.{Row, after, told}
 use Rattle.demands.specs.Demand2.{Entry}
@@ -82,24 +84,33 @@ Finish p = atFinish p ≡ true
 -- where a step may go, from a phase
 abbrev Sound : Row → Tracker → Phase → Course → Type 0
 Sound row t p Course.waits = ToCome p
-Sound row t p (Course.goes q) = ToCome p × ToCome q
+Sound row t p (Course.goes q) = (ToCome p × ToCome q) ⊎ (Finish p × Finish q)
 Sound row t p Course.ends = ToCome p
 Sound row t p (Course.takes q) = ToCome p × Finish q × (changesNothing row t ≡ false)
 Sound row t p Course.finishes = Finish p
 
-sound : (row : Row) (found held : Bool) (t : Tracker) (p : Phase) → isIdleAt p ≡ false → Sound row t p (course row found held t p)
-sound row found held t Idle b = absurd (not-both-ways refl b)
-sound row found held t Probe b = pick-by (Sound row t Probe) (both found (changesNothing row t)) (λ _. (refl, refl)) (λ _. ((refl, refl), (refl, refl)))
-sound row found held t Map b = pick-by (Sound row t Map) held (λ _. (refl, refl))
-    (λ _. pick-by (Sound row t Map) (both (negated (tagged row (leafOf (t .group)))) (changesNothing row t)) (λ _. (refl, refl)) (λ _. ((refl, refl), (refl, refl))))
-sound row found held t Leaf b = pick-by (Sound row t Leaf) (changesNothing row t) (λ _. (refl, refl)) (λ c. tags c (tagged row (leafOf (t .group))) (tagged (flat.after row t) (leafOf (t .group))))
+probed-to-come : (top d : ℕ) → ToCome (afterProbe top d)
+probed-to-come top d = pick-by ToCome (ltb (suc d) top) (λ _. (refl, refl)) (λ _. (refl, refl))
+
+sound : (below : ℕ) (row : Row) (found : ℕ → Bool) (held : Bool) (t : Tracker) (p : Phase) → isIdleAt p ≡ false → Sound row t p (course below row found held t p)
+sound below row found held t Idle b = absurd (not-both-ways refl b)
+sound below row found held t (Probe zero) b =
+    pick-by (Sound row t (Probe 0)) (both (found 0) (changesNothing row t)) (λ _. (refl, refl)) (λ _. inl ((refl, refl), probed-to-come (suc below) 0))
+sound below row found held t (Probe (suc e)) b =
+    pick-by (Sound row t (Probe (suc e))) (both (both (found (suc e)) (negated held)) (both (negated (hasTag row t e)) (changesNothing row t))) (λ _. (refl, refl))
+    (λ _. inl ((refl, refl), probed-to-come (suc below) (suc e)))
+sound below row found held t Top b = pick-by (Sound row t Top) held (λ _. (refl, refl))
+    (λ _. pick-by (Sound row t Top) (both (negated (hasTag row t below)) (changesNothing row t)) (λ _. (refl, refl)) (λ _. inl ((refl, refl), (refl, refl))))
+sound below row found held t (Under zero) b = pick-by (Sound row t (Under 0)) (changesNothing row t) (λ _. (refl, refl)) (λ c. tags c (tagged row (leafOf (t .group))) (tagged (flat.after row t) (leafOf (t .group))))
   where
-    tags : changesNothing row t ≡ false → (a b : Bool) → Sound row t Leaf (byTags a b)
+    tags : changesNothing row t ≡ false → (a b : Bool) → Sound row t (Under 0) (byTags a b)
     tags c true true = (refl, refl)
     tags c true false = ((refl, refl), refl, c)
     tags c false b = ((refl, refl), refl, c)
-sound row found held t Set b = refl
-sound row found held t Clear b = refl
+sound below row found held t (Under (suc e)) b =
+    pick-by (Sound row t (Under (suc e))) (both (negated (hasTag row t e)) (changesNothing row t)) (λ _. (refl, refl)) (λ _. inl ((refl, refl), (refl, refl)))
+sound below row found held t (Set d) b = pick-by (Sound row t (Set d)) (both (ltb d below) (negated (othersHave row t d))) (λ _. inr (refl, refl)) (λ _. refl)
+sound below row found held t (Clear d) b = pick-by (Sound row t (Clear d)) (both (ltb d below) (negated (othersHave row t d))) (λ _. inr (refl, refl)) (λ _. refl)
 
 -- what is under way at a tracker of the machine
 abbrev pub Fits : Tracker → Pending → Type 0
@@ -197,7 +208,8 @@ module _ (seen : ℕ → Move) (n : ℕ) (start : Row) {N : ℕ} {f : Flat} {w :
 
       by-course : (c : Course) → Sound (f .row) t (t .phase) c → seen N ≡ ofStep x (says (f .row) t c) → after-step c
       by-course Course.waits s e = next x xl (counted t) (f .row) w w (begun i a) refl (went x (k .inv) (omega arith) e) p (λ y q. refl) (named-still (t .phase) (t .transfers) h)
-      by-course (Course.goes q) s e = next x xl (at t q (v .transfers)) (f .row) w w (begun i a) refl (went x (k .inv) (omega arith) e) p (λ y q. refl) (named-still q (v .transfers) (s .1))
+      by-course (Course.goes q) (inr s) e = absurd (not-both-ways (s .0) (h .1))
+      by-course (Course.goes q) (inl s) e = next x xl (at t q (v .transfers)) (f .row) w w (begun i a) refl (went x (k .inv) (omega arith) e) p (λ y q. refl) (named-still q (v .transfers) (s .1))
       by-course Course.ends s e =
           let told : seen N ≡ ends x b = e ∙ told-is x (f .row) t a m in
           let taken = takes-now seen (groups n) start (k .inv) x i a p (rw told refl) in
@@ -214,7 +226,8 @@ module _ (seen : ℕ → Move) (n : ℕ) (start : Row) {N : ℕ} {f : Flat} {w :
     module _ (p : ℕ) (b : Told) (u : w .pend x ≡ past p b) (h : Finish (t .phase)) (d : b ≡ Told.done) where
       by-finish : (c : Course) → Sound (f .row) t (t .phase) c → seen N ≡ ofStep x (says (f .row) t c) → after-step c
       by-finish Course.waits s e = absurd (not-both-ways h (s .1))
-      by-finish (Course.goes q) s e = absurd (not-both-ways h (s .0 .1))
+      by-finish (Course.goes q) (inl s) e = absurd (not-both-ways h (s .0 .1))
+      by-finish (Course.goes q) (inr s) e = next x xl (at t q (v .transfers)) (f .row) w w (past p b) refl (went x (k .inv) (omega arith) e) u (λ y z. refl) (s .1, d)
       by-finish Course.ends s e = absurd (not-both-ways h (s .1))
       by-finish (Course.takes q) s e = absurd (not-both-ways h (s .0 .1))
       by-finish Course.finishes s e = next x xl idle (f .row) (closedBy N w x (past p b)) _ none (ap (closedBy N w x) u)
@@ -227,7 +240,7 @@ module _ (seen : ℕ → Move) (n : ℕ) (start : Row) {N : ℕ} {f : Flat} {w :
     by-pending (past q d) p h b c s e = by-finish q d p (h .0) (h .1) c s e
 
     stepped : isIdle t ≡ false → seen N ≡ ofStep x (says (f .row) t (courseOf f (v .found) x)) → after-step (courseOf f (v .found) x)
-    stepped b e = by-pending (w .pend x) refl (k .fits x) b (courseOf f (v .found) x) (sound (f .row) (v .found) _ t (t .phase) b) e
+    stepped b e = by-pending (w .pend x) refl (k .fits x) b (courseOf f (v .found) x) (sound (belowTop (f .shape)) (f .row) (v .found) _ t (t .phase) b) e
 
   -- an issue to tracker x, which is idle
   module _ (x : ℕ) (xl : x < f .shape .t) where

@@ -2,12 +2,14 @@
 use mathlib.Core.Path.{_≡_, refl, sym, ap, _∙_, subst}
 use mathlib.Core.Bool.{Bool, true, false}
 use mathlib.Core.List.{List, [], _∷_}
-use Prim.Native.Nat.{ℕ, _<_, min}
+use Prim.Native.Nat.{ℕ, zero, suc, _<_, min}
 use native.Mathlib.Omega.{arith}
 use native.Mathlib.Decide.{ℕ-discrete}
-use Rattle.laws.proofs.Choice.{not-both-ways}
+use lib.Dec.{ltb}
+use Rattle.laws.proofs.Choice.{not-both-ways, pick-by}
+use Rattle.geometry.specs.Shape.{belowTop}
 use Rattle.tracker.specs.declared.Phase.{Phase}
-use Rattle.tracker.specs.declared.Phase.the-variants.{Idle, Probe, Map, Leaf, Set, Clear}
+use Rattle.tracker.specs.declared.Phase.the-variants.{Idle, Probe, Top, Under, Set, Clear}
 use Rattle.tracker.specs.declared.Tracker.{Tracker}
 use Rattle.tracker.specs.Tracker.{isIdle, isIdleAt, tick}
 use Rattle.tracker.specs.Tracker as Tracker
@@ -15,7 +17,7 @@ use Rattle.tracker.specs.Answer.{Said}
 use Rattle.rules.specs.Calls.{Out}
 use Rattle.rules.specs.Run.{Call, issues, steps, drains, lends, Kept, kept, does, answers}
 use Rattle.rules.specs.Run as Run
-use Rattle.circle.specs.Table.{Move, waits, to, ends, rule}
+use Rattle.circle.specs.Table.{Move, waits, to, ends, onward, rule}
 use Rattle.circle.specs.Order.{becomes}
 use Rattle.circle.proofs.Ending.{Ending}
 use Rattle.circle.proofs.Circle.{trackerIn}
@@ -24,7 +26,7 @@ use Rattle.circle.proofs.ByTable.{Moved}
 use Rattle.circle.proofs.Ready.{Ready}
 use Rattle.circle.proofs.Calls.{bare, Outcome, outcome, call-keeps}
 use Rattle.circle.proofs.Calls as Calls
-use Rattle.circle.proofs.Link.{Anew, anew, each, by-table, Same, tick-min}
+use Rattle.circle.proofs.Link.{ButHand, but-hand, but-then, Anew, anew-issued, each, moveOf, by-table, Same, tick-min}
 use Rattle.demands.specs.Event.{Told, Event, goes-on, event, events, TurnOf, busyBy, busyFrom}
 use Rattle.demands.specs.Event as Events
 use Rattle.demands.specs.Circle.{Note, other, busy, answered, isBusy, wentOn, ended, noted}
@@ -67,19 +69,29 @@ pub data Turn (x : ℕ) (t t' : Tracker) (e : Event) : Type 0 where
   over : (b : Told) → e ≡ Event.ends x b (tick (t .turns)) → isIdle t' ≡ true → Turn x t t' e
 
 -- a move to a phase is to a busy one
-to-busy : (held quit empty write : Bool) (p q : Phase) → rule held quit empty write p ≡ to q → isIdleAt q ≡ false
-to-busy held quit empty write Idle q e = absurd (let z : _≡_ {A = ℕ} 0 1 = cc in omega arith)
-to-busy held true empty write Probe q e = absurd (let z : _≡_ {A = ℕ} 0 1 = cc in omega arith)
-to-busy held false empty write Probe q e = let z : Map ≡ q = cc in rw (sym z) refl
-to-busy true quit empty write Map q e = absurd (let z : _≡_ {A = ℕ} 0 1 = cc in omega arith)
-to-busy false true empty write Map q e = absurd (let z : _≡_ {A = ℕ} 0 1 = cc in omega arith)
-to-busy false false empty write Map q e = let z : Leaf ≡ q = cc in rw (sym z) refl
-to-busy held quit empty false Leaf q e = absurd (let z : _≡_ {A = ℕ} 0 1 = cc in omega arith)
-to-busy held true empty true Leaf q e = absurd (let z : _≡_ {A = ℕ} 0 1 = cc in omega arith)
-to-busy held false true true Leaf q e = let z : Clear ≡ q = cc in rw (sym z) refl
-to-busy held false false true Leaf q e = let z : Set ≡ q = cc in rw (sym z) refl
-to-busy held quit empty write Set q e = absurd (let z : _≡_ {A = ℕ} 0 1 = cc in omega arith)
-to-busy held quit empty write Clear q e = absurd (let z : _≡_ {A = ℕ} 0 1 = cc in omega arith)
+abbrev ToBusy : Move Phase → Type 0
+ToBusy waits = Unit {0}
+ToBusy (to p) = isIdleAt p ≡ false
+ToBusy ends = Unit {0}
+
+onward-busy : (below : ℕ) (quit : Bool) (d : ℕ) (p : Phase) → isIdleAt p ≡ false → ToBusy (onward below quit d p)
+onward-busy below true d p b = tt
+onward-busy below false d p b = pick-by ToBusy (ltb d below) (λ _. b) (λ _. tt)
+
+to-busy : (below : ℕ) (held quit set write : Bool) (p : Phase) → ToBusy (rule below held quit set write p)
+to-busy below held quit set write Idle = tt
+to-busy below held true set write (Probe d) = tt
+to-busy below held false set write (Probe d) = pick-by (λ (p : Phase). isIdleAt p ≡ false) (ltb (suc d) (suc below)) (λ _. refl) (λ _. refl)
+to-busy below true quit set write Top = tt
+to-busy below false true set write Top = tt
+to-busy below false false set write Top = refl
+to-busy below held quit set false (Under zero) = tt
+to-busy below held true set true (Under zero) = tt
+to-busy below held false set true (Under zero) = pick-by (λ (p : Phase). isIdleAt p ≡ false) set (λ _. refl) (λ _. refl)
+to-busy below held true set write (Under (suc e)) = tt
+to-busy below held false set write (Under (suc e)) = refl
+to-busy below held quit set write (Set d) = onward-busy below quit d (Set (suc d)) refl
+to-busy below held quit set write (Clear d) = onward-busy below quit d (Clear (suc d)) refl
 
 -- an ending is told something
 ending-told : (x : ℕ) (a : Said) (k : ℕ) → Ending a k → (b : Told) × (event (steps x) a ≡ Event.ends x b k)
@@ -87,10 +99,10 @@ ending-told x (Said.read v turns) k e = (Told.read v, ap (Event.ends x (Told.rea
 ending-told x (Said.done turns) k e = (Told.done, ap (Event.ends x Told.done) e)
 ending-told x (Said.same turns) k e = (Told.same, ap (Event.ends x Told.same) e)
 
-turn-by : (x : ℕ) (t t' : Tracker) (m : Move Phase) (said : Said) → isIdle t ≡ false → ((q : Phase) → m ≡ to q → isIdleAt q ≡ false) → Moved t m said t'
+turn-by : (x : ℕ) (t t' : Tracker) (m : Move Phase) (said : Said) → isIdle t ≡ false → ToBusy m → Moved t m said t'
     → Turn x t t' (event (steps x) said)
 turn-by x t t' waits said b f h = went (rw (h .0) refl) (rw (h .1) b) (rw (h .1) (record { write = refl; bottom = refl; group = refl; turns = refl }))
-turn-by x t t' (to p) said b f h = went (rw (h .0) refl) (rw (h .1) (f p refl)) (rw (h .1) (record { write = refl; bottom = refl; group = refl; turns = refl }))
+turn-by x t t' (to p) said b f h = went (rw (h .0) refl) (rw (h .1) f) (rw (h .1) (record { write = refl; bottom = refl; group = refl; turns = refl }))
 turn-by x t t' ends said b f h = let e = ending-told x said (tick (t .turns)) (h .0) in over (e .0) (e .1) (rw (h .1) refl)
 
 pub turn-tracker : (x y : ℕ) (t t' : Tracker) (e : Event) → Turn x t t' e → TurnOf y e → x ≡ y
@@ -166,8 +178,27 @@ first-busy false = refl
 pub step-turn : (k : Kept) → Ready k → (x : ℕ) → x < k .state .shape .t → isIdle (trackerIn k x) ≡ false
     → (t' : Tracker) × Anew k (kept (does k (steps x))) x t' × Turn x (trackerIn k x) t' (event (steps x) (does k (steps x) .said))
 step-turn k s x h b =
-    let r = by-table k s x h b in
-    (r .left, r .made, turn-by x (trackerIn k x) (r .left) _ (does k (steps x) .said) b (λ q e. to-busy (r .held) (r .quit) (r .empty) (trackerIn k x .write) (trackerIn k x .phase) q e) (r .by-rule))
+    let r = by-table k s x h b in (
+      r .left,
+      r .made,
+      turn-by x (trackerIn k x) (r .left) (moveOf k x r) (does k (steps x) .said) b
+          (to-busy (belowTop (k .state .shape)) (r .held) (r .quit) (r .set) (trackerIn k x .write) (trackerIn k x .phase)) (r .by-rule),
+    )
+
+-- no call changes the shape but for the hand
+pub call-shape : (k : Kept) → Ready k → (c : Call) → ButHand (kept (does k c) .state .shape) (k .state .shape)
+call-shape k s c = at (bare c) (does k c) (outcome k s c)
+  where
+    at : (c' : Call) (o : Out) → Outcome k c' o → ButHand (o .state .shape) (k .state .shape)
+    at c' o (Calls.refused r q z) = but-hand (o .state .shape) (k .state .shape) (k .state .shape .hand) (ap (λ (a : Kept). a .state .shape) z)
+    at c' o (Calls.issued x access h e is) = anew-issued k s x access h is .shape-is
+    at c' o (Calls.stepped x h b) = step-turn k s x h b .1 .shape-is
+    at c' o (Calls.drained q is) = but-hand (o .state .shape) (k .state .shape) (k .state .shape .hand) (ap (λ (a : Out). a .state .shape) is)
+
+pub run-shape : (k : Kept) → Ready k → (cs : List Call) → ButHand (Run.ended k cs .state .shape) (k .state .shape)
+unfolding Run.ended
+run-shape k s [] = but-hand (k .state .shape) (k .state .shape) (k .state .shape .hand) refl
+run-shape k s (c ∷ cs) = but-then (run-shape (kept (does k c)) (call-keeps k s c) cs) (call-shape k s c)
 
 module _ (k : Kept) (notes : ℕ → Note) (K : Noted k notes) where
   noted-turn : (x : ℕ) (t' : Tracker) (k' : Kept) (e : Event) → isIdle (trackerIn k x) ≡ false → Anew k k' x t' → Turn x (trackerIn k x) t' e
@@ -186,7 +217,7 @@ module _ (k : Kept) (notes : ℕ → Note) (K : Noted k notes) where
   noted-at c o (Calls.refused r q z) = rw (z, q) (K .is-so)
   noted-at c o (Calls.issued x access h e is) =
       rw (ap (λ (a : Out). a .said) is) (each (λ (y : ℕ) (t : Tracker). True (becomes notes x (busy (access .write) (access .bottom) 0) y) t) k (kept o) x (Tracker.issued access)
-      (anew k (kept o) x (Tracker.issued access) (K .ready) h (ap (λ (a : Out). a .state .shape .n) is) (ap (λ (a : Out). a .state .shape .t) is) (ap (λ (a : Out). a .state .trackers) is))
+      (anew-issued k (K .ready) x access h is)
       (rw (becomes-same notes x (busy (access .write) (access .bottom) 0)) (record { is-busy = first-busy (access .bottom); write-is = refl; bottom-is = refl; counts = omega arith }))
       (λ y ne. rw (becomes-other notes x y (busy (access .write) (access .bottom) 0) ne) (K .is-so y)))
   noted-at c o (Calls.stepped x h b) = let r = step-turn k (K .ready) x h b in noted-turn x (r .0) (kept o) (event (steps x) (o .said)) b (r .1) (r .2)

@@ -21,7 +21,7 @@ use Rattle.rules.specs.Run as Run
 use Rattle.rules.proofs.Calls.{issue-refused, issue-free}
 use Rattle.circle.proofs.Circle.{trackerIn}
 use Rattle.circle.proofs.Ready.{Ready, busy-below}
-use Rattle.circle.proofs.Link.{Anew, anew, each}
+use Rattle.circle.proofs.Link.{Anew, anew-issued, each}
 use Rattle.circle.proofs.Calls.{bare, Outcome, outcome, call-keeps, ok-not-no}
 use Rattle.circle.proofs.Calls as Calls
 use Rattle.session.specs.Session.{keptOf}
@@ -89,7 +89,7 @@ module _ (k : Kept) (s : Ready k) (a : Alone k) where
   alone-at : (c : Call) (o : Out) → Outcome k c o → Alone (kept o)
   alone-at c o (Calls.refused r q is) = rw is a
   alone-at c o (Calls.issued x access h e is) = alone-issued x access (none-met x access (ap (λ (d : Out). d .said) is)) (kept o)
-      (anew k (kept o) x (Tracker.issued access) s h (ap (λ (d : Out). d .state .shape .n) is) (ap (λ (d : Out). d .state .shape .t) is) (ap (λ (d : Out). d .state .trackers) is))
+      (anew-issued k s x access h is)
   alone-at c o (Calls.stepped x h b) = let r = step-turn k s x h b in alone-turn x (r .0) (kept o) (event (steps x) (o .said)) b (r .1) (r .2)
   alone-at c o (Calls.drained q is) = rw is a
 

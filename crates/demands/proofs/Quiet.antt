@@ -7,25 +7,26 @@ use Prim.Native.Nat.{ℕ, zero, suc, _*_, _+_, _<_, _≤_}
 use native.Mathlib.Omega.{arith}
 use lib.Dec.{eqb, ltb}
 use lib.ListN.{getD, set}
-use Rattle.laws.specs.Choice.{pick, both}
-use Rattle.laws.proofs.Choice.{not-both-ways, pick-by}
+use Rattle.laws.specs.Choice.{pick, both, no as negated}
+use Rattle.laws.proofs.Choice.{not-both-ways, both-left, pick-by}
 use Rattle.laws.proofs.Refusal.{unless-by}
 use Rattle.laws.proofs.Scan.{all-at}
 use Rattle.laws.proofs.Splice.{lt-or-ge}
-use Rattle.geometry.specs.TagMemory.{leafOf}
 use Rattle.geometry.specs.declared.Shape.{Shape}
+use Rattle.geometry.specs.Shape.{belowTop, topOf}
+use Rattle.geometry.specs.TagMemory.{leafOf, blockOver}
 use Rattle.tracker.specs.declared.Phase.{Phase}
-use Rattle.tracker.specs.declared.Phase.the-variants.{Idle, Probe, Map, Leaf, Set, Clear}
+use Rattle.tracker.specs.declared.Phase.the-variants.{Idle, Probe, Top, Under, Set, Clear}
 use Rattle.tracker.specs.declared.Tracker.{Tracker}
-use Rattle.tracker.specs.Tracker.{isIdle}
+use Rattle.tracker.specs.Tracker.{isIdle, keepsAt}
 use Rattle.tracker.specs.Tracker as Tracker
 use Rattle.line.specs.Word.{changed, held, word, heldBy, lineBlocks, marks}
 use Rattle.line.specs.Find.{lineOf}
 use Rattle.line.proofs.Words.{free-changed, not-used, changed-odd}
 use Rattle.rules.specs.State.{Rows, trackerAt, lengthsRight}
-use Rattle.rules.specs.Whole.{mapBlock, phaseWhole}
+use Rattle.rules.specs.Whole.{phaseWhole}
 use Rattle.rules.specs.Place.{placeLine, Brought, bringIn}
-use Rattle.rules.specs.Step.{Turned, groupIn, bitIn, probe, onMap, map, leafRead, inLine, byPhase, fit, turnOf}
+use Rattle.rules.specs.Step.{Turned, asksZero, ownLine, groupIn, bitIn, loosened, letGo, probe, descend, top, leafRead, underBit, belowLine, under, byPhase, fit, turnOf}
 use Rattle.rules.specs.Calls.{Out, stepNo, step, allIdle}
 use Rattle.rules.specs.Run.{Call, issues, steps, drains, Kept, kept, does, answers}
 use Rattle.rules.specs.Run as Run
@@ -37,7 +38,7 @@ use Rattle.flat.proofs.Drains.{drains as drains-all}
 use Rattle.flat.proofs.Follows.{Ok, follows}
 use Rattle.circle.proofs.Circle.{trackerIn}
 use Rattle.circle.proofs.Ready.{Ready}
-use Rattle.circle.proofs.Link.{Anew, anew, each}
+use Rattle.circle.proofs.Link.{Anew, anew-issued, each}
 use Rattle.circle.proofs.Calls.{bare, Outcome, outcome}
 use Rattle.circle.proofs.Calls as Calls
 use Rattle.demands.specs.Event.{Event, event, events, writtenBy, writtenFrom}
@@ -71,48 +72,78 @@ clean-bring shape b r c = pick-by (λ (o : Brought). Clean (o .rows .lines)) (lt
 abbrev CleanAfter : Turned → Type 0
 CleanAfter o = Clean (o .rows .lines)
 
+-- who lets go changes no line
+clean-loose : (lines : List ℕ) (i : ℕ) → Clean lines → Clean (loosened lines i)
+clean-loose lines i c =
+    clean-set lines i _ c (pick-by (λ (w : ℕ). changed w ≡ false) (held (getD lines i 0)) (λ _. clean-held _ 0 (c i)) (λ _. c i))
+
+clean-letGo : (p : Phase) (own : ℕ → ℕ) (e : ℕ) (lines : List ℕ) → Clean lines → Clean (letGo p own e lines)
+unfolding letGo
+clean-letGo p own zero lines c = c
+clean-letGo p own (suc e) lines c =
+    let k : Clean (letGo p own e lines) = clean-letGo p own e lines c in
+    pick-by Clean (keepsAt p (suc e)) (λ _. clean-loose (letGo p own e lines) (own (suc e)) k) (λ _. k)
+
 module _ (shape : Shape) (x : ℕ) (t : Tracker) (r : Rows) (c : Clean (r .lines)) where
-  clean-probe : CleanAfter (probe shape t r)
+  clean-probe : (d : ℕ) → CleanAfter (probe shape d t r)
   unfolding probe
-  clean-probe = pick-by CleanAfter (ltb (lineOf (r .lines) (shape .l) (leafOf (t .group))) (shape .l))
-      (λ _. pick-by CleanAfter (t .write) (λ _. pick-by CleanAfter (eqb (groupIn (r .bytes) (lineOf (r .lines) (shape .l) (leafOf (t .group))) (t .group)) (t .value)) (λ _. c) (λ _. c)) (λ _. c)) (λ _. c)
+  clean-probe zero =
+      let i = ownLine shape t r 0 in
+      pick-by CleanAfter (ltb i (shape .l))
+      (λ _. pick-by CleanAfter (t .write) (λ _. pick-by CleanAfter (eqb (groupIn (r .bytes) i (t .group)) (t .value)) (λ _. c) (λ _. c)) (λ _. c)) (λ _. c)
+  clean-probe (suc e) =
+      let i = ownLine shape t r (suc e) in
+      let j = ownLine shape t r (topOf shape) in
+      pick-by CleanAfter (both (both (ltb i (shape .l)) (negated (both (ltb j (shape .l)) (held (getD (r .lines) j 0))))) (both (eqb (bitIn (r .bytes) i e (t .group)) 0) (asksZero t)))
+      (λ _. c) (λ _. c)
 
-  clean-onMap : (b : Brought) → Clean (b .rows .lines) → CleanAfter (onMap x t b)
-  unfolding onMap
-  clean-onMap b k =
-      let h : Clean (set (b .rows .lines) (b .line) (heldBy (getD (b .rows .lines) (b .line) 0) (x + 1))) = clean-set (b .rows .lines) (b .line) _ k (clean-held _ (x + 1) (k (b .line))) in
-      pick-by CleanAfter (eqb (bitIn (b .rows .bytes) (b .line) (t .group)) 0)
-      (λ _. pick-by CleanAfter (t .write) (λ _. pick-by CleanAfter (eqb (t .value) 0) (λ _. k) (λ _. h)) (λ _. k)) (λ _. h)
+  clean-descend : (own : ℕ → ℕ) (d : ℕ) (b : Brought) → Clean (b .rows .lines) → CleanAfter (descend x own d t b)
+  unfolding descend
+  clean-descend own d b k =
+      pick-by CleanAfter (both (eqb (bitIn (b .rows .bytes) (b .line) d (t .group)) 0) (asksZero t))
+      (λ _. clean-letGo (t .phase) own (topOf (b .shape)) (b .rows .lines) k)
+      (λ _. clean-set (b .rows .lines) (b .line) _ k (clean-held _ (x + 1) (k (b .line))))
 
-  clean-map : CleanAfter (map shape x t r)
-  unfolding map
-  clean-map =
-      let m = mapBlock (shape .n) (t .group) in
+  clean-top : CleanAfter (top shape x t r)
+  unfolding top
+  clean-top =
+      let m = blockOver (topOf shape) (shape .n) (t .group) in
       pick-by CleanAfter (both (ltb (lineOf (r .lines) (shape .l) m) (shape .l)) (held (getD (r .lines) (lineOf (r .lines) (shape .l) m) 0))) (λ _. c)
-      (λ _. pick-by CleanAfter (ltb (bringIn shape m r .line) (shape .l)) (λ _. clean-onMap (bringIn shape m r) (clean-bring shape m r c)) (λ _. c))
+      (λ _. pick-by CleanAfter (ltb (bringIn shape m r .line) (shape .l)) (λ _. clean-descend (ownLine shape t r) (belowTop shape) (bringIn shape m r) (clean-bring shape m r c)) (λ _. c))
 
-  clean-leafRead : (j : ℕ) → CleanAfter (leafRead shape j t r)
+  clean-leafRead : CleanAfter (leafRead shape t r)
   unfolding leafRead
-  clean-leafRead j =
+  clean-leafRead =
       let b = bringIn shape (leafOf (t .group)) r in
-      let k : Clean (b .rows .lines) = clean-bring shape (leafOf (t .group)) r c in
-      pick-by CleanAfter (ltb (b .line) (shape .l)) (λ _. clean-set (b .rows .lines) j _ k (clean-held _ 0 (k j))) (λ _. c)
+      pick-by CleanAfter (ltb (b .line) (shape .l))
+      (λ _. clean-letGo (t .phase) (ownLine shape t r) (topOf (b .shape)) (b .rows .lines) (clean-bring shape (leafOf (t .group)) r c)) (λ _. c)
 
   module _ (reads : t .write ≡ false) where
-    clean-leaf : CleanAfter (inLine shape t r Leaf)
-    unfolding inLine
-    clean-leaf = pick-by CleanAfter (ltb (lineOf (r .lines) (shape .l) (mapBlock (shape .n) (t .group))) (shape .l))
-        (λ _. pick-by CleanAfter (t .write) (λ w. absurd (not-both-ways w reads)) (λ _. clean-leafRead (lineOf (r .lines) (shape .l) (mapBlock (shape .n) (t .group))))) (λ _. c)
+    clean-underBit : (d : ℕ) → Clean (underBit shape d t r .rows .lines)
+    unfolding underBit
+    clean-underBit d =
+        pick-by (λ (o : Brought). Clean (o .rows .lines)) (both (t .write) (eqb (bitIn (r .bytes) (ownLine shape t r (suc d)) d (t .group)) 0))
+        (λ h. absurd (not-both-ways (both-left _ _ h) reads)) (λ _. clean-bring shape (blockOver d (shape .n) (t .group)) r c)
 
-    clean-byPhase : (p : Phase) → phaseWhole (t .write) (t .bottom) p ≡ true → CleanAfter (byPhase shape x t r p)
+    clean-belowLine : (d : ℕ) → CleanAfter (belowLine shape x d t r)
+    clean-belowLine zero = pick-by CleanAfter (t .write) (λ w. absurd (not-both-ways w reads)) (λ _. clean-leafRead)
+    clean-belowLine (suc e) =
+        let b = underBit shape (suc e) t r in
+        pick-by CleanAfter (ltb (b .line) (shape .l)) (λ _. clean-descend (ownLine shape t r) e b (clean-underBit (suc e))) (λ _. c)
+
+    clean-under : (d : ℕ) → CleanAfter (under shape x d t r)
+    unfolding under
+    clean-under d = pick-by CleanAfter (ltb (ownLine shape t r (suc d)) (shape .l)) (λ _. clean-belowLine d) (λ _. c)
+
+    clean-byPhase : (p : Phase) → phaseWhole (topOf shape) (t .write) (t .bottom) p ≡ true → CleanAfter (byPhase shape x t r p)
     clean-byPhase Idle h = c
-    clean-byPhase Probe h = clean-probe
-    clean-byPhase Map h = clean-map
-    clean-byPhase Leaf h = clean-leaf
-    clean-byPhase Set h = absurd (not-both-ways h reads)
-    clean-byPhase Clear h = absurd (not-both-ways h reads)
+    clean-byPhase (Probe d) h = clean-probe d
+    clean-byPhase Top h = clean-top
+    clean-byPhase (Under d) h = clean-under d
+    clean-byPhase (Set d) h = absurd (not-both-ways (both-left _ _ h) reads)
+    clean-byPhase (Clear d) h = absurd (not-both-ways (both-left _ _ h) reads)
 
-    clean-turn : phaseWhole (t .write) (t .bottom) (t .phase) ≡ true → CleanAfter (turnOf shape x t r)
+    clean-turn : phaseWhole (topOf shape) (t .write) (t .bottom) (t .phase) ≡ true → CleanAfter (turnOf shape x t r)
     unfolding turnOf
     clean-turn h = pick-by CleanAfter (fit shape x t r)
         (λ _. pick-by CleanAfter (lengthsRight shape (r .bytes) (r .memory)) (λ _. clean-byPhase (t .phase) h) (λ _. c)) (λ _. c)
@@ -172,7 +203,7 @@ module _ (k : Kept) (row : Row) (a : Ok k row) (w : Bool) (Q : w ≡ false → Q
       record {
         clean = rw is (Q (f .1) .clean);
         reads = each (λ (y : ℕ) (t : Tracker). isIdle t ≡ false → t .write ≡ false) k (kept o) x (Tracker.issued access)
-            (anew k (kept o) x (Tracker.issued access) s h (ap (λ (d : Out). d .state .shape .n) is) (ap (λ (d : Out). d .state .shape .t) is) (ap (λ (d : Out). d .state .trackers) is))
+            (anew-issued k s x access h is)
             (λ _. f .0) (λ y ne. Q (f .1) .reads y);
       }
   quiet-at c o (Calls.stepped x h b) s' z =

@@ -6,30 +6,30 @@ use mathlib.Core.List.{List, [], _∷_, _++_}
 use Prim.Native.Nat.{ℕ, _<_}
 use native.Mathlib.Omega.{arith}
 use lib.ListN.{replicate}
-use Rattle.tracker.specs.Tracker.{readOf, writeOf}
+use Rattle.tracker.specs.Tracker.{readOf, writeOf, asksAt, keepsAt}
 use Rattle.laws.specs.Choice.{both, either, implies, no}
 use Rattle.laws.specs.Bytes.{part, splice, fits, putW, value, bytes, numberAt}
-use Rattle.laws.specs.Scan.{first, all}
+use Rattle.laws.specs.Scan.{first, all, some}
 use Rattle.laws.specs.Bits.{bitOf, withBit}
 use Rattle.laws.specs.Refusal.{refusal, unless}
-use Rattle.geometry.specs.TagMemory.{leafOf, byteOf, groups, mapBlockOf, mapByteOf, mapBitOf, mapBlocks, inLimits}
+use Rattle.geometry.specs.Shape.{belowTop}
+use Rattle.geometry.specs.TagMemory.{leafOf, byteOf, groups, mapBlockOf, mapByteOf, mapBitOf, index, mapBlocks, inLimitsOf}
 use Rattle.block.specs.Block.{bitAt, putBit, allZero, blockOr0}
-use Rattle.memory.specs.PlainReading.{leafBit}
-use Rattle.memory.specs.True.{trueAt, isTrue, clearedMap}
 use Rattle.line.specs.Word.{used, blockOf, changed, holder, held, has, word, heldBy, cleaned}
 use Rattle.line.specs.Find.{lineOf, lowestFree, looseFrom, victim, after}
 use Rattle.rules.specs.State.{lengthsRight}
-use Rattle.rules.specs.Whole.{limits, holds, lineWhole, trackerWhole, whole}
+use Rattle.rules.specs.Whole.{limits, keeps, lineWhole, levelWhole, trackerWhole, whole}
 use Rattle.rules.specs.Copies.{fetches, backs, tally}
-use Rattle.rules.specs.Place.{rowsFit, placeLine, placeHand, writtenBack, backOf, placeMemory, placeCopies, bringIn, drained, drainCopies}
-use Rattle.rules.specs.Step.{probe, onMap, map, leafRead, putIn, writeUnder1, writeUnder0, leafWrite, finish, inLine, fit, turnOf}
+use Rattle.rules.specs.Place.{rowsFit, placeLine, placeHand, writtenBack, backOf, placeMemory, placeCopies, bringIn, create, drained, drainCopies}
+use Rattle.rules.specs.Step.{letGo, probe, descend, top, leafRead, putIn, writeUnder1, writeUnder0, leafWrite, underBit, under, finishBelow, finish, fit, turnOf}
 use Rattle.rules.specs.Calls.{fresh, opened, meets, meetsNone, issueNo, issue, stepNo, step, allIdle, drainNo, drain}
 use Rattle.rules.specs.Run.{Call, issues, steps, Kept, kept, does, answers, ended}
 use Rattle.session.specs.Session.{Starts, over}
 use Rattle.circle.specs.Order.{next, inOrder}
 use Rattle.circle.specs.LastTurn.{lastTurn}
 use Rattle.demands.specs.Event.{Told, Event, begins, goes-on, ends, events, busyFrom}
-use Rattle.demands.specs.Circle.{Note, other, answered, Goes, stays, turned, passed, between, under}
+use Rattle.demands.specs.Circle.{Note, other, answered, Goes, stays, turned, passed, between}
+use Rattle.demands.specs.Circle as Circle
 use Rattle.demands.specs.Reached.{Reached}
 use Rattle.demands.proofs.Runs.{stateOf, AllPlain, said-answers, session-of, fresh-starts, opened-starts}
 
@@ -45,7 +45,7 @@ module _ (t : ℕ) (k : Kept) (start : Starts t (stateOf (k .state)) (k .bytes) 
     memory = ended k cs .memory;
     place = j;
     notes = notes;
-    run = under start over h (session-of k cs p)
+    run = Circle.under start over h (session-of k cs p)
         (subst (λ (ds : List Event). Goes t (inOrder t) i (λ x. other false) ds n j notes) (e ∙ ap (events cs) (sym (said-answers (answers k cs)))) g);
     x = x;
     at-last = l;
@@ -57,7 +57,7 @@ abbrev two : Kept
 two = kept (fresh 2 2 3 (replicate 192 7) (replicate 192 9))
 
 two-starts : Starts 2 (stateOf (two .state)) (two .bytes) (two .memory)
-unfolding both either implies no refusal unless leafOf byteOf groups mapBlockOf mapByteOf mapBitOf mapBlocks part splice fits putW value bytes numberAt first all bitOf withBit inLimits bitAt putBit allZero blockOr0 clearedMap leafBit trueAt isTrue used blockOf changed holder held has word heldBy cleaned lineOf lowestFree looseFrom victim after lengthsRight limits holds lineWhole trackerWhole whole rowsFit placeLine placeHand fetches backs tally writtenBack backOf placeMemory placeCopies bringIn drained drainCopies probe onMap map leafRead putIn writeUnder1 writeUnder0 leafWrite finish inLine fit turnOf fresh opened meets meetsNone issueNo issue stepNo step allIdle drainNo drain does answers next events
+unfolding both either implies no refusal unless leafOf byteOf groups mapBlockOf mapByteOf mapBitOf index mapBlocks part splice fits putW value bytes numberAt first all some bitOf withBit belowTop inLimitsOf bitAt putBit allZero blockOr0 used blockOf changed holder held has word heldBy cleaned lineOf lowestFree looseFrom victim after lengthsRight limits keeps levelWhole lineWhole trackerWhole whole rowsFit placeLine placeHand fetches backs tally writtenBack backOf placeMemory placeCopies bringIn create drained drainCopies asksAt keepsAt letGo probe descend top leafRead putIn writeUnder1 writeUnder0 leafWrite underBit under finishBelow finish fit turnOf fresh opened meets meetsNone issueNo issue stepNo step allIdle drainNo drain does answers next events
 two-starts = fresh-starts 2 2 3 (replicate 192 7) (replicate 192 9) refl refl
 
 -- One tracker, and a memory of one leaf with one group that is not zero: it is read, or emptied, which clears its bit.
@@ -65,11 +65,11 @@ abbrev one : Kept
 one = kept (opened 1 1 2 (replicate 128 7) ((5 ∷ replicate 63 0) ++ (1 ∷ replicate 63 0)))
 
 one-starts : Starts 1 (stateOf (one .state)) (one .bytes) (one .memory)
-unfolding both either implies no refusal unless leafOf byteOf groups mapBlockOf mapByteOf mapBitOf mapBlocks part splice fits putW value bytes numberAt first all bitOf withBit inLimits bitAt putBit allZero blockOr0 clearedMap leafBit trueAt isTrue used blockOf changed holder held has word heldBy cleaned lineOf lowestFree looseFrom victim after lengthsRight limits holds lineWhole trackerWhole whole rowsFit placeLine placeHand fetches backs tally writtenBack backOf placeMemory placeCopies bringIn drained drainCopies probe onMap map leafRead putIn writeUnder1 writeUnder0 leafWrite finish inLine fit turnOf fresh opened meets meetsNone issueNo issue stepNo step allIdle drainNo drain does answers next events
+unfolding both either implies no refusal unless leafOf byteOf groups mapBlockOf mapByteOf mapBitOf index mapBlocks part splice fits putW value bytes numberAt first all some bitOf withBit belowTop inLimitsOf bitAt putBit allZero blockOr0 used blockOf changed holder held has word heldBy cleaned lineOf lowestFree looseFrom victim after lengthsRight limits keeps levelWhole lineWhole trackerWhole whole rowsFit placeLine placeHand fetches backs tally writtenBack backOf placeMemory placeCopies bringIn create drained drainCopies asksAt keepsAt letGo probe descend top leafRead putIn writeUnder1 writeUnder0 leafWrite underBit under finishBelow finish fit turnOf fresh opened meets meetsNone issueNo issue stepNo step allIdle drainNo drain does answers next events
 one-starts = opened-starts 1 1 2 (replicate 128 7) ((5 ∷ replicate 63 0) ++ (1 ∷ replicate 63 0)) refl refl refl
 
 pub reached-two : (write bottom : Bool) → Reached 2 write bottom
-unfolding both either implies no refusal unless leafOf byteOf groups mapBlockOf mapByteOf mapBitOf mapBlocks part splice fits putW value bytes numberAt first all bitOf withBit inLimits bitAt putBit allZero blockOr0 clearedMap leafBit trueAt isTrue used blockOf changed holder held has word heldBy cleaned lineOf lowestFree looseFrom victim after lengthsRight limits holds lineWhole trackerWhole whole rowsFit placeLine placeHand fetches backs tally writtenBack backOf placeMemory placeCopies bringIn drained drainCopies probe onMap map leafRead putIn writeUnder1 writeUnder0 leafWrite finish inLine fit turnOf fresh opened meets meetsNone issueNo issue stepNo step allIdle drainNo drain does answers next events
+unfolding both either implies no refusal unless leafOf byteOf groups mapBlockOf mapByteOf mapBitOf index mapBlocks part splice fits putW value bytes numberAt first all some bitOf withBit belowTop inLimitsOf bitAt putBit allZero blockOr0 used blockOf changed holder held has word heldBy cleaned lineOf lowestFree looseFrom victim after lengthsRight limits keeps levelWhole lineWhole trackerWhole whole rowsFit placeLine placeHand fetches backs tally writtenBack backOf placeMemory placeCopies bringIn create drained drainCopies asksAt keepsAt letGo probe descend top leafRead putIn writeUnder1 writeUnder0 leafWrite underBit under finishBelow finish fit turnOf fresh opened meets meetsNone issueNo issue stepNo step allIdle drainNo drain does answers next events
 reached-two false false =
     reaches 2 two two-starts {i = 1} (issues 1 (writeOf false 16 10) ∷ steps 1 ∷ issues 0 (readOf false 17) ∷ steps 0 ∷ steps 1 ∷ steps 0 ∷ steps 1 ∷ steps 0 ∷ steps 0 ∷ []) (omega arith) (
     between (begins 1 (writeOf false 16 10)) tt ( -- 1 is to write
@@ -130,7 +130,7 @@ reached-two true true =
     stays)))))))))))))) refl (omega arith, (omega arith, (tt, (tt, (tt, (tt, (tt, (tt, (tt, (tt, (tt, tt))))))))))) true true 0 refl
 
 pub reached-one : (write bottom : Bool) → Reached 1 write bottom
-unfolding both either implies no refusal unless leafOf byteOf groups mapBlockOf mapByteOf mapBitOf mapBlocks part splice fits putW value bytes numberAt first all bitOf withBit inLimits bitAt putBit allZero blockOr0 clearedMap leafBit trueAt isTrue used blockOf changed holder held has word heldBy cleaned lineOf lowestFree looseFrom victim after lengthsRight limits holds lineWhole trackerWhole whole rowsFit placeLine placeHand fetches backs tally writtenBack backOf placeMemory placeCopies bringIn drained drainCopies probe onMap map leafRead putIn writeUnder1 writeUnder0 leafWrite finish inLine fit turnOf fresh opened meets meetsNone issueNo issue stepNo step allIdle drainNo drain does answers next events
+unfolding both either implies no refusal unless leafOf byteOf groups mapBlockOf mapByteOf mapBitOf index mapBlocks part splice fits putW value bytes numberAt first all some bitOf withBit belowTop inLimitsOf bitAt putBit allZero blockOr0 used blockOf changed holder held has word heldBy cleaned lineOf lowestFree looseFrom victim after lengthsRight limits keeps levelWhole lineWhole trackerWhole whole rowsFit placeLine placeHand fetches backs tally writtenBack backOf placeMemory placeCopies bringIn create drained drainCopies asksAt keepsAt letGo probe descend top leafRead putIn writeUnder1 writeUnder0 leafWrite underBit under finishBelow finish fit turnOf fresh opened meets meetsNone issueNo issue stepNo step allIdle drainNo drain does answers next events
 reached-one false false =
     reaches 1 one one-starts {i = 0} (issues 0 (readOf false 0) ∷ steps 0 ∷ steps 0 ∷ []) (omega arith) (
     between (begins 0 (readOf false 0)) tt ( -- 0 is to read

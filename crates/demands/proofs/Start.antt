@@ -5,8 +5,9 @@ use mathlib.Core.List.{List}
 use Prim.Native.Nat.{ℕ}
 use lib.ListN.{getD}
 use Rattle.laws.proofs.Writes.{getD-replicate}
-use Rattle.memory.specs.PlainReading.{plainGroup}
-use Rattle.geometry.specs.Shape.{shapeOf}
+use Rattle.memory.specs.PlainReading.{plainGroupOf}
+use Rattle.geometry.specs.Shape.{shapeOf, belowTop, topOf}
+use Rattle.geometry.proofs.Shapes.{below-start}
 use Rattle.tracker.specs.declared.Phase.the-variants.{Idle}
 use Rattle.tracker.specs.declared.Answer.{Answer}
 use Rattle.tracker.specs.Answer.{ok}
@@ -25,9 +26,10 @@ use Rattle.cache.specs.declared.Out.{Out}
 use Rattle.session.specs.Session.{Starts, fresh, opened, Met, issued, stepped, drained, Session, over, then, lent, keptOf}
 
 pub record Begun (t : ℕ) (k : Kept) : Type 0 where
-  pub agrees : Ok k (plainGroup (k .state .shape .n) (k .memory))
+  pub agrees : Ok k (plainGroupOf (topOf (k .state .shape)) (k .state .shape .n) (k .memory))
   pub idle : (x : ℕ) → trackerAt (k .state .trackers) x .phase ≡ Idle
   pub clean : (i : ℕ) → changed (getD (k .state .lines) i 0) ≡ false
+  pub levels : belowTop (k .state .shape) ≡ 0
   pub count : k .state .shape .t ≡ t
 
 module _ (n t l : ℕ) (b m : List ℕ) where
@@ -39,6 +41,7 @@ module _ (n t l : ℕ) (b m : List ℕ) where
     agrees = fresh-agrees n t l b m e;
     idle = fresh-idle n t l b m;
     clean = all-free (calls.fresh n t l b m) (ap (λ (o : calls.Out). o .state .lines) (fresh-accepted n t l b m (fresh-passed n t l b m e)));
+    levels = ap (λ (o : calls.Out). belowTop (o .state .shape)) (fresh-accepted n t l b m (fresh-passed n t l b m e)) ∙ below-start n t l;
     count = ap (λ (o : calls.Out). o .state .shape .t) (fresh-accepted n t l b m (fresh-passed n t l b m e));
   }
 
@@ -47,6 +50,7 @@ module _ (n t l : ℕ) (b m : List ℕ) where
     agrees = opened-agrees n t l b m e;
     idle = opened-idle n t l b m;
     clean = all-free (calls.opened n t l b m) (ap (λ (o : calls.Out). o .state .lines) (open-accepted n t l b m (open-passed n t l b m e)));
+    levels = ap (λ (o : calls.Out). belowTop (o .state .shape)) (open-accepted n t l b m (open-passed n t l b m e)) ∙ below-start n t l;
     count = ap (λ (o : calls.Out). o .state .shape .t) (open-accepted n t l b m (open-passed n t l b m e));
   }
 

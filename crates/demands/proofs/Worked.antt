@@ -5,27 +5,28 @@ use mathlib.Core.List.{List, [], _∷_}
 use Prim.Native.Nat.{ℕ, zero, suc}
 use lib.ListN.{replicate}
 use Rattle.tracker.specs.declared.Access.{Access}
-use Rattle.tracker.specs.Tracker.{readOf, writeOf}
+use Rattle.tracker.specs.Tracker.{readOf, writeOf, asksAt, keepsAt}
 use Rattle.laws.specs.Choice.{both, either, implies, no}
 use Rattle.laws.specs.Refusal.{refusal, unless}
 use Rattle.laws.specs.Bytes.{part, splice, fits, putW, value, bytes, numberAt}
-use Rattle.laws.specs.Scan.{first, all}
+use Rattle.laws.specs.Scan.{first, all, some}
 use Rattle.laws.specs.Bits.{bitOf, withBit}
-use Rattle.geometry.specs.TagMemory.{leafOf, byteOf, groups, mapBlockOf, mapByteOf, mapBitOf, mapBlocks, inLimits}
+use Rattle.geometry.specs.Shape.{belowTop}
+use Rattle.geometry.specs.TagMemory.{leafOf, byteOf, groups, mapBlockOf, mapByteOf, mapBitOf, index, mapBlocks, inLimitsOf}
 use Rattle.block.specs.Block.{bitAt, putBit, allZero, blockOr0}
-use Rattle.memory.specs.PlainReading.{leafBit, plainGroup, plainReading}
-use Rattle.memory.specs.True.{trueAt, isTrue, clearedMap}
+use Rattle.memory.specs.PlainReading.{plainGroup, plainReading}
 use Rattle.tracker.specs.Answer.{ok}
 use Rattle.line.specs.Word.{used, blockOf, changed, holder, held, has, word, heldBy, cleaned}
 use Rattle.line.specs.Find.{lineOf, lowestFree, looseFrom, victim, after}
 use Rattle.rules.specs.State.{lengthsRight}
-use Rattle.rules.specs.Whole.{limits, holds, lineWhole, trackerWhole, whole}
+use Rattle.rules.specs.Whole.{limits, keeps, holds, lineWhole, levelWhole, trackerWhole, whole}
 use Rattle.rules.specs.Copies.{fetch, back, fetches, backs, tally}
-use Rattle.rules.specs.Copied.{createCopies, copies}
-use Rattle.rules.specs.Place.{rowsFit, placeLine, placeHand, writtenBack, backOf, placeMemory, placeCopies, bringIn, bringCopies, drained, drainCopies}
-use Rattle.rules.specs.Step.{probe, onMap, map, leafRead, putIn, writeUnder1, writeUnder0, leafWrite, finish, inLine, fit, turnOf}
+use Rattle.rules.specs.Copied.{copies}
+use Rattle.rules.specs.Place.{rowsFit, placeLine, placeHand, writtenBack, backOf, placeMemory, placeCopies, bringIn, create, bringCopies, createCopies, drained, drainCopies}
+use Rattle.rules.specs.Step.{letGo, probe, descend, top, leafRead, putIn, writeUnder1, writeUnder0, leafWrite, underBit, under, finishBelow, finish, fit, turnOf}
 use Rattle.rules.specs.Calls.{fresh, meets, meetsNone, issueNo, issue, stepNo, step, allIdle, drainNo, drain}
 use Rattle.rules.specs.Run.{Call, issues, steps, drains, Kept, kept, does, answers, ended}
+use Rattle.flat.specs.Levels.{reaches, others}
 use Rattle.flat.specs.Flat.{tagged, someHolds, flatIssue, flatStep, flatDrain, flatDoes, flatAnswers, flatEnded}
 use Rattle.flat.specs.Demand.{unseen, given}
 use Rattle.demands.specs.Event.{events, busyFrom, busyAfter, writtenFrom}
@@ -73,7 +74,7 @@ pub record Worked : Type 0 where
   pub copied : (made begun calls 0 ≡ back 3 ∷ fetch 2 ∷ []) × (made begun calls 1 ≡ back 2 ∷ fetch 1 ∷ [])
 
 pub worked : Worked
-unfolding both either implies no refusal unless leafOf byteOf groups mapBlockOf mapByteOf mapBitOf mapBlocks part splice fits putW value bytes numberAt first all bitOf withBit inLimits bitAt putBit allZero blockOr0 leafBit plainGroup plainReading trueAt isTrue clearedMap used blockOf changed holder held has word heldBy cleaned lineOf lowestFree looseFrom victim after lengthsRight limits holds lineWhole trackerWhole whole rowsFit placeLine placeHand fetches backs tally writtenBack backOf placeMemory placeCopies bringIn drained drainCopies probe onMap map leafRead putIn writeUnder1 writeUnder0 leafWrite finish inLine fit turnOf fresh meets meetsNone issueNo issue stepNo step allIdle drainNo drain does answers ended tagged someHolds flatIssue flatStep flatDrain flatDoes flatAnswers flatEnded unseen given watched put more events busyFrom writtenFrom bringCopies createCopies copies madeFrom
+unfolding both either implies no refusal unless leafOf byteOf groups mapBlockOf mapByteOf mapBitOf index mapBlocks part splice fits putW value bytes numberAt first all some bitOf withBit belowTop inLimitsOf bitAt putBit allZero blockOr0 plainGroup plainReading used blockOf changed holder held has word heldBy cleaned lineOf lowestFree looseFrom victim after lengthsRight limits keeps levelWhole lineWhole trackerWhole whole rowsFit placeLine placeHand fetches backs tally writtenBack backOf placeMemory placeCopies bringIn create drained drainCopies asksAt keepsAt letGo probe descend top leafRead putIn writeUnder1 writeUnder0 leafWrite underBit under finishBelow finish fit turnOf fresh meets meetsNone issueNo issue stepNo step allIdle drainNo drain does answers ended reaches others tagged holds someHolds flatIssue flatStep flatDrain flatDoes flatAnswers flatEnded unseen given watched put more events busyFrom writtenFrom bringCopies createCopies copies madeFrom
 worked = record { accepted = refl; count = refl; log = refl; idle = (refl, refl); clean = refl; shows = refl; copied = (refl, refl) }
 
 -- it is a session of the code, and the theorem speaks of it
@@ -81,12 +82,12 @@ plain : AllPlain calls
 plain = search arith depth 60 fits 4000
 
 pub instance : (log : Log) × OneRow (begun .state .shape .n) (begun .memory) (events calls (said (answersOf (answers begun calls)))) (ended begun calls .memory) log
-unfolding fresh unless refusal limits both inLimits lengthsRight mapBlocks
+unfolding fresh unless refusal limits both belowTop inLimitsOf lengthsRight mapBlocks
 instance =
     let d = demand-2 2 (stateOf (begun .state)) (begun .bytes) (begun .memory) (fresh-starts 4 2 3 (replicate 192 7) (replicate 320 9) refl refl) in
     (d .0 calls, d .1 _ _ _ calls _ (session-of begun calls plain))
 
 pub instance-transfers : OfSession (made begun calls) (stateOf (ended begun calls .state)) (ended begun calls .bytes) (ended begun calls .memory)
-unfolding fresh unless refusal limits both inLimits lengthsRight mapBlocks
+unfolding fresh unless refusal limits both belowTop inLimitsOf lengthsRight mapBlocks
 instance-transfers =
     transfers-are-copies 2 (stateOf (begun .state)) _ (begun .bytes) (begun .memory) _ _ calls _ (fresh-starts 4 2 3 (replicate 192 7) (replicate 320 9) refl refl) (session-of begun calls plain)

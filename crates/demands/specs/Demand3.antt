@@ -5,6 +5,7 @@ use mathlib.Core.Logic.{_⊎_}
 use mathlib.Core.Bool.{Bool, true, false}
 use mathlib.Core.List.{List, [], _∷_}
 use Prim.Native.Nat.{ℕ, _*_, _≤_, _<_, min}
+use Rattle.geometry.specs.declared.Shape.{Shape}
 use Rattle.tracker.specs.declared.Answer.{Answer}
 use Rattle.tracker.specs.Answer.{says}
 use Rattle.rules.specs.Run.{Call, steps}
@@ -56,12 +57,12 @@ pub record Waits (t : ℕ) (last : (write bottom : Bool) → ℕ) (o : Order t) 
       → {s' : State} {b' m' : List ℕ} {cs : List Call} {answers : List Answer} {places j : ℕ} {notes' : ℕ → Note} → Session s b m cs answers s' b' m'
       → Goes t o i notes (events cs (said answers)) places j notes' → t * last write bottom ≤ places → Among (EndOf x) (events cs (said answers))
 
--- for any last turns, as those of any number of levels
-abbrev pub LongestWait : (last : (t : ℕ) (write bottom : Bool) → ℕ) → Type 0
-LongestWait last = (t : ℕ) (o : Order t) (s : State) (b m : List ℕ) (i : ℕ) (notes : ℕ → Note) → UnderTheCircle t o s b m i notes → Waits t (last t) o s b m i notes
+-- for any last turns of a device with a state's shape, as those of its number of levels
+abbrev pub LongestWait : (last : Shape → (t : ℕ) (write bottom : Bool) → ℕ) → Type 0
+LongestWait last = (t : ℕ) (o : Order t) (s : State) (b m : List ℕ) (i : ℕ) (notes : ℕ → Note) → UnderTheCircle t o s b m i notes → Waits t (last (s .shape) t) o s b m i notes
 
 abbrev pub Demand3 : Type 0
-Demand3 = LongestWait lastTurn
+Demand3 = LongestWait (λ shape. lastTurn)
 
 -- The count, in every session from that start and not only under the circle.
 unfoldable pub notedFrom : (ℕ → Note) → List Event → ℕ → Note

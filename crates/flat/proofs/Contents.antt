@@ -3,7 +3,7 @@ use mathlib.Core.Path.{_≡_, refl, sym, ap, _∙_}
 use mathlib.Core.Bool.{true, false}
 use mathlib.Core.List.{List}
 use mathlib.Core.Logic.{_⊎_, inl, inr, ⊎-elim}
-use Prim.Native.Nat.{ℕ, _*_, _<_, _≤_}
+use Prim.Native.Nat.{ℕ, _*_, _<_}
 use lib.Dec.{ltb}
 use borrow.Author.Tests.{lt-ltb, le-ltb}
 use lib.ListN.{length, set}
@@ -26,10 +26,6 @@ pub record Good (B l : ℕ) (r : Rows) : Type 0 where
   pub memory-long : length (r .memory) ≡ 64 * B
   pub apart : Apart B l (r .lines)
   pub clean : (i b : ℕ) → Has (r .lines) i b → changed (at (r .lines) i) ≡ false → lineBytes (r .bytes) i ≡ blockAt (r .memory) b
-
--- two words of one line that say the same of its block
-pub has-same : (ls ls' : List ℕ) (i b : ℕ) → at ls' i ≡ at ls i → Has ls i b → Has ls' i b
-has-same ls ls' i b e h = record { is-used = ap used e ∙ h .is-used; is-block = ap blockOf e ∙ h .is-block }
 
 module _ {B l : ℕ} {r : Rows} (G : Good B l r) where
   -- a block has a line, or has none
@@ -99,37 +95,62 @@ module _ {B l : ℕ} {r : Rows} (G : Good B l r) {i w : ℕ} {bytes' memory' y :
   pub change-gone : (b : ℕ) → Has (r .lines) i b → (used w ≡ true → blockOf w ≡ b → ⊥) → content l new b ≡ blockAt memory' b
   change-gone b h m = content-out change-good b (λ j h'. ⊎-elim (λ p. m (p .1) (p .2)) (λ p. p .0 (G .apart .one j i b (p .1) h)) (new-or-old (G .apart) i w (c .line-lt) j b h'))
 
--- Words change, and none says another block or that it is changed where it was not: contents stay.
-module _ {B l : ℕ} {r : Rows} (G : Good B l r) (lines' : List ℕ) (long : l ≤ length lines')
-    (says-used : (j : ℕ) → used (at lines' j) ≡ used (at (r .lines) j))
-    (says-block : (j : ℕ) → used (at (r .lines) j) ≡ true → blockOf (at lines' j) ≡ blockOf (at (r .lines) j))
-    (says-changed : (j : ℕ) → used (at (r .lines) j) ≡ true → changed (at lines' j) ≡ changed (at (r .lines) j)) where
+-- each block in memory is as it was, or was written back as it is
+abbrev pub Backed : (B l : ℕ) (r r' : Rows) → Type 0
+Backed B l r r' = (b : ℕ) → b < B → (blockAt (r' .memory) b ≡ blockAt (r .memory) b) ⊎ (blockAt (r' .memory) b ≡ content l r b)
+
+-- rows that have the same contents, and no other block in a line
+pub record Same (B l : ℕ) (r r' : Rows) : Type 0 where
+  pub good : Good B l r'
+  pub backed : Backed B l r r'
+  pub same : (b : ℕ) → b < B → content l r' b ≡ content l r b
+  pub had : (j b : ℕ) → Has (r' .lines) j b → Has (r .lines) j b
+
+pub same-none : {B l : ℕ} {r : Rows} → Good B l r → Same B l r r
+same-none G = record { good = G; backed = λ b q. inl refl; same = λ b q. refl; had = λ j b h. h }
+
+-- and memory is as it was: marks may differ
+pub record Marked (B l : ℕ) (r r' : Rows) : Type 0 where
+  pub same : Same B l r r'
+  pub memory-is : r' .memory ≡ r .memory
+
+-- words change, and none says otherwise of its block: whether there is one, which, and whether it is changed
+pub record Marks (lines lines' : List ℕ) : Type 0 where
+  pub long : length lines' ≡ length lines
+  pub says-used : (j : ℕ) → used (at lines' j) ≡ used (at lines j)
+  pub says-block : (j : ℕ) → blockOf (at lines' j) ≡ blockOf (at lines j)
+  pub says-changed : (j : ℕ) → changed (at lines' j) ≡ changed (at lines j)
+
+-- contents stay then
+module _ {B l : ℕ} {r : Rows} (G : Good B l r) {lines' : List ℕ} (m : Marks (r .lines) lines') where
   abbrev pub marked : Rows
   marked = record { lines = lines'; bytes = r .bytes; memory = r .memory }
 
-  pub marked-had : (j b : ℕ) → Has lines' j b → Has (r .lines) j b
-  marked-had j b h = let u : used (at (r .lines) j) ≡ true = sym (says-used j) ∙ h .is-used in
-      record { is-used = u; is-block = sym (says-block j u) ∙ h .is-block }
+  marked-had : (j b : ℕ) → Has lines' j b → Has (r .lines) j b
+  marked-had j b h = record { is-used = sym (m .says-used j) ∙ h .is-used; is-block = sym (m .says-block j) ∙ h .is-block }
 
-  pub marked-has : (j b : ℕ) → Has (r .lines) j b → Has lines' j b
-  marked-has j b h = record { is-used = says-used j ∙ h .is-used; is-block = says-block j (h .is-used) ∙ h .is-block }
+  marked-has : (j b : ℕ) → Has (r .lines) j b → Has lines' j b
+  marked-has j b h = record { is-used = m .says-used j ∙ h .is-used; is-block = m .says-block j ∙ h .is-block }
 
-  pub marked-good : Good B l marked
+  marked-good : Good B l marked
   marked-good = record {
     bytes-long = G .bytes-long;
     memory-long = G .memory-long;
     apart = record {
-      long = long;
-      above = λ j q. says-used j ∙ G .apart .above j q;
+      long = rw (m .long) (G .apart .long);
+      above = λ j q. m .says-used j ∙ G .apart .above j q;
       exists = λ j b h. G .apart .exists j b (marked-had j b h);
       one = λ j k b h h'. G .apart .one j k b (marked-had j b h) (marked-had k b h');
     };
-    clean = λ j b h e. G .clean j b (marked-had j b h) (sym (says-changed j (marked-had j b h .is-used)) ∙ e);
+    clean = λ j b h e. G .clean j b (marked-had j b h) (sym (m .says-changed j) ∙ e);
   }
 
-  pub marked-content : (b : ℕ) → content l marked b ≡ content l r b
+  marked-content : (b : ℕ) → content l marked b ≡ content l r b
   marked-content b = go (lined-or-not G b)
     where
       go : ((j : ℕ) × Has (r .lines) j b) ⊎ ((j : ℕ) → Has (r .lines) j b → ⊥) → content l marked b ≡ content l r b
       go (inl o) = content-in marked-good (o .0) b (marked-has (o .0) b (o .1)) ∙ sym (content-in G (o .0) b (o .1))
       go (inr o) = content-out marked-good b (λ j h. o j (marked-had j b h)) ∙ sym (content-out G b o)
+
+  pub marks-marked : Marked B l r marked
+  marks-marked = record { same = record { good = marked-good; backed = λ b q. inl refl; same = λ b q. marked-content b; had = marked-had }; memory-is = refl }

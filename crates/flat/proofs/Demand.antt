@@ -2,15 +2,17 @@
 use mathlib.Core.Path.{_≡_, refl, ap, _∙_}
 use mathlib.Core.Bool.{true}
 use mathlib.Core.List.{List, [], _∷_}
-use Prim.Native.Nat.{ℕ}
+use Prim.Native.Nat.{ℕ, _<_}
+use native.Mathlib.Omega.{arith}
 use lib.ListN.{replicate}
 use Rattle.laws.proofs.Writes.{getD-replicate}
 use Rattle.laws.proofs.Choice.{not-both-ways}
-use Rattle.geometry.specs.Shape.{shapeOf}
+use Rattle.geometry.specs.Shape.{shapeOf, belowTop, topOf}
+use Rattle.geometry.proofs.Shapes.{below-start}
 use Rattle.geometry.specs.TagMemory.{mostTrackers, mostLines}
-use Rattle.memory.specs.PlainReading.{plainGroup}
-use Rattle.memory.specs.True.{isTrue, clearedMap}
-use Rattle.memory.proofs.Clearing.{length-clearedMap, clearedMap-true}
+use Rattle.memory.specs.PlainReading.{plainGroupOf}
+use Rattle.memory.specs.True.{isTrueOf, clearedOf}
+use Rattle.memory.proofs.Clearing.{length-clearedOf, clearedOf-true}
 use Rattle.tracker.specs.declared.Phase.the-variants.{Idle}
 use Rattle.tracker.specs.declared.Tracker.{Tracker}
 use Rattle.tracker.specs.Tracker.{idle}
@@ -55,28 +57,37 @@ pub runs : (cs : List Call) (k : Kept) (row : Row) → Ok k row → Values32 cs 
 runs [] k row a q = runs-none k row a
 runs (c ∷ cs) k row a q = let f = follows k row a c (q .0) in runs-more k c cs row f (runs cs (kept (does k c)) (f .row') (f .ok-still) (q .1))
 
--- The beginning: every line free, every tracker idle, over a true memory.
-module _ (n t l : ℕ) (bytes memory : List ℕ) (lim : limits (shapeOf n t l) ≡ true) (right : lengthsRight (shapeOf n t l) bytes memory ≡ true) (tr : isTrue n memory ≡ true) where
-  pub begun-ok : Ok (kept (accepted (begun (shapeOf n t l)) bytes memory)) (plainGroup n memory)
+-- The beginning: every line free, every tracker idle, over a true memory. 01's device has no blocks between the leaves and the top.
+module _ (n t l : ℕ) (bytes memory : List ℕ) (lim : limits (shapeOf n t l) ≡ true) (right : lengthsRight (shapeOf n t l) bytes memory ≡ true) (tr : isTrueOf (topOf (shapeOf n t l)) n memory ≡ true) where
+  pub begun-ok : Ok (kept (accepted (begun (shapeOf n t l)) bytes memory)) (plainGroupOf (topOf (shapeOf n t l)) n memory)
   begun-ok = record {
     is-whole = begun-whole n t l lim;
     right = right;
-    agrees = begins n l (record { lines = replicate mostLines 0; bytes = bytes; memory = memory }) (replicate mostTrackers idle) (bytes-right (shapeOf n t l) bytes memory right) (memory-right (shapeOf n t l) bytes memory right)
-        (l-most (shapeOf n t l) lim) (λ i b h. not-both-ways (h .is-used) (ap used (getD-replicate mostLines i 0) ∙ free-used)) (λ x. getD-replicate mostTrackers x idle) tr;
+    agrees = begins (belowTop (shapeOf n t l)) n l (record { lines = replicate mostLines 0; bytes = bytes; memory = memory }) (replicate mostTrackers idle)
+        (bytes-right (shapeOf n t l) bytes memory right) (memory-right (shapeOf n t l) bytes memory right) (l-most (shapeOf n t l) lim)
+        (λ i b h. not-both-ways (h .is-used) (ap used (getD-replicate mostLines i 0) ∙ free-used)) (λ x. getD-replicate mostTrackers x idle) tr
+        (λ b p q. absurd (let z : b < n = rw (below-start n t l) at q in omega arith));
   }
 
 module _ (n t l : ℕ) (bytes memory : List ℕ) where
+  abbrev top : ℕ
+  top = topOf (shapeOf n t l)
+
   -- an accepted fresh agrees with what its memory then reads
-  pub fresh-agrees : fresh n t l bytes memory .said ≡ ok → Ok (kept (fresh n t l bytes memory)) (plainGroup (fresh n t l bytes memory .state .shape .n) (fresh n t l bytes memory .memory))
+  pub fresh-agrees : fresh n t l bytes memory .said ≡ ok
+      → Ok (kept (fresh n t l bytes memory)) (plainGroupOf (topOf (fresh n t l bytes memory .state .shape)) (fresh n t l bytes memory .state .shape .n) (fresh n t l bytes memory .memory))
   fresh-agrees s =
       let c = fresh-passed n t l bytes memory s in
       let f = fresh-free n t l bytes memory c in
+      let m = clearedOf top n memory in
       rw (fresh-accepted n t l bytes memory c)
-      (begun-ok n t l bytes (clearedMap n memory) (f .0)
-      (lengths-right (shapeOf n t l) bytes (clearedMap n memory) (bytes-right (shapeOf n t l) bytes memory (f .1)) (length-clearedMap n memory ∙ memory-right (shapeOf n t l) bytes memory (f .1))) (clearedMap-true n memory))
+      (begun-ok n t l bytes m (f .0)
+      (lengths-right (shapeOf n t l) bytes m (bytes-right (shapeOf n t l) bytes memory (f .1)) (length-clearedOf top n memory ∙ memory-right (shapeOf n t l) bytes memory (f .1)))
+      (clearedOf-true (belowTop (shapeOf n t l)) n memory))
 
   -- and so does an accepted open
-  pub opened-agrees : opened n t l bytes memory .said ≡ ok → Ok (kept (opened n t l bytes memory)) (plainGroup (opened n t l bytes memory .state .shape .n) (opened n t l bytes memory .memory))
+  pub opened-agrees : opened n t l bytes memory .said ≡ ok
+      → Ok (kept (opened n t l bytes memory)) (plainGroupOf (topOf (opened n t l bytes memory .state .shape)) (opened n t l bytes memory .state .shape .n) (opened n t l bytes memory .memory))
   opened-agrees s =
       let c = open-passed n t l bytes memory s in
       let f = open-free n t l bytes memory c in

@@ -1,21 +1,21 @@
 -- One call of a run: what it says is what the flat row says, and what it leaves agrees with what the flat row leaves.
 use mathlib.Core.Path.{_≡_, refl, sym, ap, _∙_, subst}
-use mathlib.Core.Bool.{Bool, true, false}
+use mathlib.Core.Bool.{true, false}
 use mathlib.Core.List.{List, []}
 use mathlib.Core.Logic.{_⊎_, inl, inr, ⊎-elim}
 use Prim.Native.Nat.{ℕ, _<_}
 use native.Mathlib.Omega.{arith}
 use lib.ListN.{set}
-use Rattle.laws.specs.Choice.{pick}
 use Rattle.laws.proofs.Choice.{true-or-false}
 use Rattle.laws.specs.Refusal.{refusal, unless}
 use Rattle.laws.proofs.Refusal.{refused-or-not, unless-0, unless-no}
 use Rattle.geometry.specs.declared.Shape.{Shape}
-use Rattle.geometry.specs.Shape.{atHand}
+use Rattle.geometry.specs.Shape.{atHand, topOf}
+use Rattle.geometry.proofs.Shapes.{below-hand}
 use Rattle.geometry.specs.TagMemory.{values}
 use Rattle.tracker.specs.declared.Access.{Access}
 use Rattle.tracker.specs.declared.Tracker.{Tracker}
-use Rattle.tracker.specs.Tracker.{isIdle, issued, firstPhase}
+use Rattle.tracker.specs.Tracker.{isIdle, issued}
 use Rattle.tracker.specs.Answer.{ok}
 use Rattle.rules.specs.State.{State, trackerAt, lengthsRight}
 use Rattle.rules.specs.Whole.{whole}
@@ -24,12 +24,14 @@ use Rattle.rules.specs.Step.{Turned, byPhase}
 use Rattle.rules.specs.Calls.{Out, refused, accepted, withTracker, issueTests, issueNo, issue, stepped, stepTests, stepNo, step, allIdle, drainsTo, drainNo, drain}
 use Rattle.rules.specs.Run.{Call, issues, steps, drains, lends, Kept, kept, rowsOf, elsewhere, does}
 use Rattle.rules.proofs.Whole.{Whole, whole-facts}
-use Rattle.rules.proofs.Keeps.{tracker-same}
-use Rattle.rules.proofs.Calls.{Sound, lengths-hand, situation, turn-byPhase, step-is, step-sound, step-refused, step-free, issue-refused, issue-accepted, issue-free, issue-kept, drain-is, drain-sound, drain-busy, drains as drains-lined}
+use Rattle.rules.proofs.Trackers.{tracker-same}
+use Rattle.rules.proofs.Calls.{Sound, lengths-hand, turn-byPhase, step-is, step-sound, step-refused, step-free, issue-refused, issue-accepted, issue-free, issue-kept, drain-is, drain-sound, drain-busy, drains as drains-lined}
 use Rattle.flat.specs.Flat.{Row, Flat, Unseen, Reply, Course, courseOf, says, rowBy, trackerBy, effectBy, withRow, refuse, flatIssue, flatStep, flatDrain, flatDoes}
 use Rattle.flat.specs.Demand.{found, unseen, Value32}
-use Rattle.flat.proofs.Agrees.{Fits, Agrees, finish-busy, agrees-same, agrees-rows}
-use Rattle.flat.proofs.Steps.{Plays, plays-byPhase}
+use Rattle.flat.proofs.Moves.{contained-stays}
+use Rattle.flat.proofs.Stepped.{contained-issued}
+use Rattle.flat.proofs.Viewed.{stays-of, between-same}
+use Rattle.flat.proofs.Played.{Means, Plays, plays-byPhase}
 use Rattle.flat.proofs.Drains.{drains as drains-same}
 
 -- the flat machine with the accesses of k
@@ -40,7 +42,7 @@ flatWith k row = record { shape = atHand (k .state .shape) 0; row = row; tracker
 pub record Ok (k : Kept) (row : Row) : Type 0 where
   pub is-whole : whole (k .state) ≡ true
   pub right : lengthsRight (k .state .shape) (k .bytes) (k .memory) ≡ true
-  pub agrees : Agrees (k .state .shape .n) (k .state .shape .l) (rowsOf k) (k .state .trackers) row
+  pub agrees : Means (topOf (k .state .shape)) (k .state .shape .n) (k .state .shape .l) (rowsOf k) (k .state .trackers) row
 
 pub record Follows (k : Kept) (c : Call) (row : Row) : Type 0 where
   pub row' : Row
@@ -87,19 +89,14 @@ module _ {k : Kept} {row : Row} (a : Ok k row) where
       unfolding flatIssue
       flat-issued = unless-0 _ _ free
 
-      first-fits : (b : Bool) → Fits row (issued access) (firstPhase b)
-      first-fits true = tt
-      first-fits false = tt
-
-      value-small : access .value < values → (b : Bool) → pick b (access .value) 0 < values
-      value-small q true = q
-      value-small q false = omega arith
-
-      issued-agrees : access .value < values → Agrees (k .state .shape .n) (k .state .shape .l) (rowsOf k) (set (k .state .trackers) x (issued access)) row
-      issued-agrees q =
+      issued-means : access .value < values → Means (topOf (k .state .shape)) (k .state .shape .n) (k .state .shape .l) (rowsOf k) (set (k .state .trackers) x (issued access)) row
+      issued-means q =
           let h = issue-free (k .state) (k .bytes) (k .memory) (a .is-whole) (a .right) x access free in
-          agrees-same (a .agrees) x (omega (arith, w .tracked .long, h .0)) (issued access) (value-small q (access .write)) (a .agrees .good) (λ b bl. refl) (a .agrees .lined)
-          (λ j f. finish-busy (trackerAt (k .state .trackers) x .phase) (h .2) (f .is-there)) (first-fits (access .bottom))
+          record {
+            good = a .agrees .good;
+            between = a .agrees .between;
+            contained = contained-issued (omega arith) (a .agrees .contained) x (omega (arith, w .tracked .long, h .0)) (h .2) access q;
+          }
 
     follows-issue : access .value < values → Follows k (issues x access) row
     follows-issue q = go (refused-or-not (refusal (issueTests (k .state .shape) x access (k .state .trackers))))
@@ -112,7 +109,7 @@ module _ {k : Kept} {row : Row} (a : Ok k row) where
             let s = issue-kept (k .state) (k .bytes) (k .memory) (a .is-whole) (a .right) x access in
             follows-by (accepted (withTracker (k .state) x (issued access)) (k .bytes) (k .memory))
             (record { said = ok; flat = withRow (flatWith k row) row x (issued access); effect = [] }) row (does-issue ∙ is) (flat-issue ∙ flat-issued e) refl refl
-            (record { is-whole = rw is at (s .is-whole); right = a .right; agrees = issued-agrees e q }) refl
+            (record { is-whole = rw is at (s .is-whole); right = a .right; agrees = issued-means e q }) refl
 
   -- step
   module _ (x : ℕ) where
@@ -156,8 +153,8 @@ module _ {k : Kept} {row : Row} (a : Ok k row) where
       abbrev turn : Turned
       turn = byPhase (k .state .shape) x u (rowsOf k) (u .phase)
 
-      plays : Plays (k .state .shape .n) (k .state .shape .l) x (k .state .trackers) row u c turn
-      plays = plays-byPhase (situation (k .state) (k .bytes) (k .memory) (a .is-whole) (a .right) x xl busy) row (a .agrees) (found k x) _ refl refl (u .phase) refl
+      plays : Plays (topOf (k .state .shape)) (k .state .shape .n) (k .state .shape .l) x (k .state .trackers) row u c turn
+      plays = rw (below-hand (k .state .shape) 0) (plays-byPhase (k .state) (k .bytes) (k .memory) (a .is-whole) (a .right) row (a .agrees) x xl busy)
 
       step-turn : step (k .state) (k .bytes) (k .memory) x ≡ stepped (k .state) x turn
       step-turn = step-is (k .state) (k .bytes) (k .memory) (a .is-whole) (a .right) x xl busy ∙ ap (stepped (k .state) x) (turn-byPhase (k .state) (k .bytes) (k .memory) (a .is-whole) (a .right) x xl busy)
@@ -178,7 +175,8 @@ module _ {k : Kept} {row : Row} (a : Ok k row) where
           (record {
             is-whole = turn-sound .is-whole;
             right = turn-sound .right;
-            agrees = subst (λ (z : Shape). Agrees (z .n) (z .l) (turn .rows) (set (k .state .trackers) x (turn .tracker)) (rowBy row u c)) (sym (turn-sound .is-shape)) (plays .agrees);
+            agrees = subst (λ (z : Shape). Means (topOf z) (z .n) (z .l) (turn .rows) (set (k .state .trackers) x (turn .tracker)) (rowBy row u c)) (sym (turn-sound .is-shape))
+                (rw (below-hand (k .state .shape) (turn .shape .hand)) (plays .means));
           })
           (ap (λ (z : Shape). z .n) (turn-sound .is-shape))
 
@@ -219,9 +217,13 @@ module _ {k : Kept} {row : Row} (a : Ok k row) where
           (record {
             is-whole = rw is at (s .is-whole);
             right = rw is at (s .right);
-            agrees = subst (λ (y : List ℕ). Agrees (k .state .shape .n) (k .state .shape .l)
+            agrees = subst (λ (y : List ℕ). Means (topOf (k .state .shape)) (k .state .shape .n) (k .state .shape .l)
                 (record { lines = drained (k .state .shape .l) (rowsOf k) .lines; bytes = y; memory = drained (k .state .shape .l) (rowsOf k) .memory }) (k .state .trackers) row) b
-                (agrees-rows (a .agrees) (d .same .good) (d .same .same) (λ i j q h. a .agrees .lined i j q (d .had i j h)));
+                (record {
+                  good = d .same .good;
+                  between = between-same (topOf (k .state .shape)) (k .state .shape .n) _ (a .agrees .good) (d .same) (a .agrees .between);
+                  contained = contained-stays (stays-of (topOf (k .state .shape)) (k .state .shape .n) _ (a .agrees .good) (d .same)) (a .agrees .contained);
+                });
           }) refl
 
 -- a call that lent other bytes: of the right lengths they are the run's own, of others the call is refused 2

@@ -47,12 +47,3 @@ module _ (row : Row) (k : ℕ) where
           zero-at : (j : ℕ) → j < 16 → tagged row k ≡ false → groupAt c (4 * j) ≡ 0
           zero-at j q e =
               ap (groupAt c) (sym (byteOf-groupOn k j q)) ∙ sym (f (groupOn k j) (leafOf-groupOn k j q)) ∙ untagged e (groupOn k j) (leafOf-groupOn k j q)
-
-  module _ (c : List ℕ) (lc : length c ≡ 64) (f : (g : ℕ) → leafOf g ≡ k → row g ≡ groupAt c (byteOf g)) where
-    pub tagged-empty : allZero c ≡ true → tagged row k ≡ false
-    unfolding no
-    tagged-empty z = tagged-leaf c lc f ∙ rw z
-
-    pub tagged-full : allZero c ≡ false → tagged row k ≡ true
-    unfolding no
-    tagged-full z = tagged-leaf c lc f ∙ rw z

@@ -1,29 +1,33 @@
 -- Groups, bits and zero bytes of one block in a row of blocks, and what a write into one block leaves of the others.
 use mathlib.Core.Path.{_≡_, refl, sym, ap, _∙_}
-use mathlib.Core.Bool.{true}
+use mathlib.Core.Bool.{true, false}
 use mathlib.Core.List.{List}
 use Prim.Native.Nat.{ℕ, zero, suc, _+_, _*_, _/_, _%_, _<_, _≤_}
 use native.Mathlib.Omega.{arith}
 use native.Mathlib.Decide.{ℕ-discrete}
+use lib.Count.{trailingZeros}
 use lib.Dec.{eqb}
-use borrow.Author.Tests.{eq-eqb, ne-eqb}
-use lib.ListN.{length, getD, set, replicate, length-set}
+use borrow.Author.Tests.{eq-eqb, ne-eqb, eqb-false}
+use lib.ListN.{length, getD, set, length-set}
 use lib.Seq.{ext-getD, getD-set-same, getD-set-other}
-use Rattle.geometry.proofs.Places.{byteOf-lt, byteOf-apart}
+use Rattle.geometry.proofs.Places.{byteOf-lt, byteOf-apart, mapByteOf-lt, mapBitOf-lt, map-one, mapBlockOf-child, mapByteOf-child, mapBitOf-child}
 use Rattle.laws.specs.Choice.{pick, both}
 use Rattle.laws.specs.Scan.{all}
-use Rattle.laws.specs.Bits.{withBit}
-use Rattle.laws.specs.Bytes.{splice, bytes}
+use Rattle.laws.specs.Bits.{bitOf, withBit}
+use Rattle.laws.specs.Bytes.{splice, bytes, Bytes}
+use Rattle.laws.proofs.Bits.{lowest-one, withBit-lt}
+use Rattle.laws.proofs.Writes.{getD-replicate}
 use Rattle.laws.proofs.Splice.{length-splice, getD-part, splice-in}
 use Rattle.laws.proofs.Put.{length-part}
 use Rattle.laws.proofs.Value.{length-bytes}
-use Rattle.geometry.specs.TagMemory.{leafOf, byteOf, values}
+use Rattle.geometry.specs.TagMemory.{leafOf, byteOf, values, blockBits, mapBlockOf, mapByteOf, mapBitOf}
 use Rattle.memory.specs.True.{blockAt}
 use Rattle.block.specs.Block.{groupAt, putGroup, bitAt, putBit, allZero}
 use Rattle.block.proofs.Groups.{groupAt-fits, putGroup-fits, groupAt-putGroup-same, groupAt-putGroup-other}
-use Rattle.block.proofs.BitsOf.{putBit-is}
+use Rattle.block.proofs.BitsOf.{putBit-is, bitAt-lt, bitAt-zero, bitAt-putBit-same, bitAt-putBit-bit, bitAt-putBit-byte}
 use Rattle.block.proofs.Zero.{allZero-at, allZero-is}
 use Rattle.rules.proofs.Blocks.{Has64, block-length, block-fit, splice-here, splice-there}
+use Rattle.rules.specs.Step.{zeros}
 use Rattle.flat.specs.Flat.{Row, put}
 
 module _ (m : List ℕ) (b : ℕ) (h : Has64 m b) where
@@ -135,16 +139,61 @@ module _ (c : List ℕ) (lc : length c ≡ 64) where
       let l4 : length (bytes 4 v) ≡ 4 = length-bytes 4 v in
       ap length (putGroup-fits c (byteOf g) v (omega arith)) ∙ length-splice c (byteOf g) (bytes 4 v) (omega arith) ∙ lc
 
--- 64 zero bytes
-abbrev pub zeros : List ℕ
-zeros = replicate 64 0
+-- One block of 64 bytes as its 512 bits: that over block k, of those whose bits the block has.
+abbrev pub bitOn : List ℕ → ℕ → ℕ
+bitOn c k = bitAt c (mapByteOf k) (mapBitOf k)
 
+pub bit-0 : (c : List ℕ) (k : ℕ) → eqb (bitOn c k) 1 ≡ false → bitOn c k ≡ 0
+bit-0 c k e = let z : bitOn c k < 2 = bitAt-lt c (mapByteOf k) (mapBitOf k) in let y : (bitOn c k ≡ 1 → ⊥) = eqb-false _ _ e in omega arith
+
+module _ (c : List ℕ) (lc : length c ≡ 64) where
+  pub empty-bit : (k : ℕ) → allZero c ≡ true → bitOn c k ≡ 0
+  empty-bit k z = bitAt-zero c (mapByteOf k) (mapBitOf k) (allZero-at c z (mapByteOf k) (omega (arith, mapByteOf-lt k)))
+
+  -- a byte that is not zero has a bit 1
+  pub bits-empty : Bytes c → (j : ℕ) → ((k : ℕ) → mapBlockOf k ≡ j → bitOn c k ≡ 0) → allZero c ≡ true
+  unfolding Bytes bitAt
+  bits-empty B j f = allZero-is c (λ i l. byte i (omega arith) (ℕ-discrete (getD c i 0) 0))
+    where
+      byte : (i : ℕ) → i < 64 → Dec (getD c i 0 ≡ 0) → getD c i 0 ≡ 0
+      byte i l (yes e) = e
+      byte i l (no e) =
+          let o = lowest-one 8 (getD c i 0) (omega arith) (B i) in
+          let q = trailingZeros 8 (getD c i 0) in
+          let z : bitOf (getD c (mapByteOf (blockBits * j + (8 * i + q))) 0) (mapBitOf (blockBits * j + (8 * i + q))) ≡ 0 = f (blockBits * j + (8 * i + q)) (mapBlockOf-child j (8 * i + q) (let y = o .0 in omega arith)) in
+          let y : bitOf (getD c i 0) q ≡ 0 = rw (mapByteOf-child j i q l (o .0), mapBitOf-child j i q (o .0)) at z in
+          let w = o .1 in
+          absurd (omega arith)
+
+  module _ (k v : ℕ) (vl : v < 2) where
+    -- the bits of the block with that over k made v
+    pub put-bits : (i : ℕ) → mapBlockOf i ≡ mapBlockOf k → bitOn (putBit c (mapByteOf k) (mapBitOf k) v) i ≡ pick (eqb i k) v (bitOn c i)
+    put-bits i e = go (ℕ-discrete i k) (ℕ-discrete (mapByteOf i) (mapByteOf k))
+      where
+        go : Dec (i ≡ k) → Dec (mapByteOf i ≡ mapByteOf k) → bitOn (putBit c (mapByteOf k) (mapBitOf k) v) i ≡ pick (eqb i k) v (bitOn c i)
+        go (yes p) d = rw (eq-eqb i k p, p) (bitAt-putBit-same c (mapByteOf k) (mapBitOf k) v (omega (arith, mapByteOf-lt k)) (mapBitOf-lt k) vl)
+        go (no p) (yes d) = rw (ne-eqb i k p, d) (bitAt-putBit-bit c (mapByteOf k) (mapBitOf k) v (mapBitOf i) (omega (arith, mapByteOf-lt k)) (mapBitOf-lt k) vl (λ z. p (map-one i k e d (sym z))))
+        go (no p) (no d) = rw (ne-eqb i k p) (bitAt-putBit-byte c (mapByteOf k) (mapBitOf k) v (mapByteOf i) (mapBitOf i) (mapBitOf-lt k) d)
+
+    pub put-bytes : Bytes c → Bytes (putBit c (mapByteOf k) (mapBitOf k) v)
+    unfolding Bytes
+    put-bytes B i = rw (putBit-is c (mapByteOf k) (mapBitOf k) v (mapBitOf-lt k)) (go (ℕ-discrete i (mapByteOf k)))
+      where
+        go : Dec (i ≡ mapByteOf k) → getD (set c (mapByteOf k) (withBit (getD c (mapByteOf k) 0) (mapBitOf k) v)) i 0 < 256
+        go (yes p) = rw (p, getD-set-same c (mapByteOf k) (withBit (getD c (mapByteOf k) 0) (mapBitOf k) v) 0 (omega (arith, mapByteOf-lt k))) (withBit-lt (getD c (mapByteOf k) 0) (mapBitOf k) 8 v (mapBitOf-lt k) vl (B (mapByteOf k)))
+        go (no p) = rw (getD-set-other c (mapByteOf k) i (withBit (getD c (mapByteOf k) 0) (mapBitOf k) v) 0 p) (B i)
+
+-- 64 zero bytes
 pub zeros-long : length zeros ≡ 64
 zeros-long = refl
 
 pub zeros-empty : allZero zeros ≡ true
 unfolding allZero all both
 zeros-empty = refl
+
+pub zeros-bytes : Bytes zeros
+unfolding Bytes
+zeros-bytes i = rw (getD-replicate {A = ℕ} 64 i 0) (omega arith)
 
 -- and v put into them: every other group is 0
 pub new-leaf : (row : Row) (g h v : ℕ) → v < values → leafOf h ≡ leafOf g → row h ≡ 0 → put row g v h ≡ groupAt (putGroup zeros (byteOf g) v) (byteOf h)

@@ -3,26 +3,27 @@ use mathlib.Core.Path.{_≡_, refl}
 use mathlib.Core.Bool.{true, false}
 use mathlib.Core.List.{List, [], _∷_}
 use lib.ListN.{replicate}
-use Rattle.geometry.specs.TagMemory.{leafOf, byteOf, groups, mapBlockOf, mapByteOf, mapBitOf, mapBlocks, inLimits}
+use Rattle.geometry.specs.Shape.{belowTop}
+use Rattle.geometry.specs.TagMemory.{leafOf, byteOf, groups, mapBlockOf, mapByteOf, mapBitOf, index, mapBlocks, inLimitsOf}
 use Rattle.laws.specs.Refusal.{refusal, unless}
 use Rattle.laws.specs.Choice.{both, either, implies, no}
 use Rattle.laws.specs.Bytes.{part, splice, fits, putW, value, bytes, numberAt}
-use Rattle.laws.specs.Scan.{first, all}
+use Rattle.laws.specs.Scan.{first, all, some}
 use Rattle.laws.specs.Bits.{bitOf, withBit}
 use Rattle.block.specs.Block.{bitAt, putBit, allZero, blockOr0}
-use Rattle.memory.specs.PlainReading.{leafBit, plainGroup}
-use Rattle.memory.specs.True.{trueAt, isTrue, clearedMap}
-use Rattle.tracker.specs.Tracker.{readOf, writeOf}
+use Rattle.memory.specs.PlainReading.{plainGroup}
+use Rattle.tracker.specs.Tracker.{readOf, writeOf, asksAt, keepsAt}
 use Rattle.tracker.specs.Answer.{Said, ok, wait, moved, read, done}
 use Rattle.line.specs.Word.{used, blockOf, changed, holder, held, has, word, heldBy, cleaned}
 use Rattle.line.specs.Find.{lineOf, lowestFree, looseFrom, victim, after}
 use Rattle.rules.specs.State.{lengthsRight}
-use Rattle.rules.specs.Whole.{limits, holds, lineWhole, trackerWhole, whole}
+use Rattle.rules.specs.Whole.{limits, keeps, holds, lineWhole, levelWhole, trackerWhole, whole}
 use Rattle.rules.specs.Copies.{fetches, backs, tally}
-use Rattle.rules.specs.Place.{rowsFit, placeLine, placeHand, writtenBack, backOf, placeMemory, placeCopies, bringIn, drained, drainCopies}
-use Rattle.rules.specs.Step.{probe, onMap, map, leafRead, putIn, writeUnder1, writeUnder0, leafWrite, finish, inLine, fit, turnOf}
+use Rattle.rules.specs.Place.{rowsFit, placeLine, placeHand, writtenBack, backOf, placeMemory, placeCopies, bringIn, create, drained, drainCopies}
+use Rattle.rules.specs.Step.{letGo, probe, descend, top, leafRead, putIn, writeUnder1, writeUnder0, leafWrite, underBit, under, finishBelow, finish, fit, turnOf}
 use Rattle.rules.specs.Calls.{fresh, meets, meetsNone, issueNo, issue, stepNo, step, allIdle, drainNo, drain}
 use Rattle.rules.specs.Run.{Call, issues, steps, drains, Kept, kept, does, answers, ended}
+use Rattle.flat.specs.Levels.{reaches}
 use Rattle.flat.specs.Flat.{tagged, someHolds, flatIssue, flatStep, flatDrain, flatDoes, flatAnswers, flatEnded}
 use Rattle.flat.specs.Demand.{unseen, given, flatOf}
 
@@ -60,7 +61,7 @@ pub record Worked : Type 0 where
   pub row-emptied : flatEnded (flatOf begun) (given begun calls) .row 33 ≡ 0
 
 pub worked : Worked
-unfolding both either implies no refusal unless leafOf byteOf groups mapBlockOf mapByteOf mapBitOf mapBlocks part splice fits putW value bytes numberAt first all bitOf withBit inLimits bitAt putBit allZero blockOr0 leafBit plainGroup trueAt isTrue clearedMap used blockOf changed holder held has word heldBy cleaned lineOf lowestFree looseFrom victim after lengthsRight limits holds lineWhole trackerWhole whole rowsFit placeLine placeHand fetches backs tally writtenBack backOf placeMemory placeCopies bringIn drained drainCopies probe onMap map leafRead putIn writeUnder1 writeUnder0 leafWrite finish inLine fit turnOf fresh meets meetsNone issueNo issue stepNo step allIdle drainNo drain does answers ended tagged someHolds flatIssue flatStep flatDrain flatDoes flatAnswers flatEnded unseen given
+unfolding both either implies no refusal unless leafOf byteOf groups mapBlockOf mapByteOf mapBitOf index mapBlocks part splice fits putW value bytes numberAt first all some bitOf withBit belowTop inLimitsOf bitAt putBit allZero blockOr0 plainGroup used blockOf changed holder held has word heldBy cleaned lineOf lowestFree looseFrom victim after lengthsRight limits keeps holds levelWhole lineWhole trackerWhole whole rowsFit placeLine placeHand fetches backs tally writtenBack backOf placeMemory placeCopies bringIn create drained drainCopies asksAt keepsAt letGo probe descend top leafRead putIn writeUnder1 writeUnder0 leafWrite underBit under finishBelow finish fit turnOf fresh meets meetsNone issueNo issue stepNo step allIdle drainNo drain does answers ended reaches tagged someHolds flatIssue flatStep flatDrain flatDoes flatAnswers flatEnded unseen given
 worked = record {
   accepted = refl;
   answered = refl;

@@ -3,24 +3,24 @@ use mathlib.Core.List.{List, [], _∷_}
 use mathlib.Core.Bool.{Bool, false}
 use Prim.Native.Nat.{ℕ, _<_}
 use lib.Dec.{ltb}
-use Rattle.geometry.specs.Shape.{atHand}
-use Rattle.geometry.specs.TagMemory.{leafOf, values}
-use Rattle.memory.specs.PlainReading.{plainGroup}
+use Rattle.geometry.specs.Shape.{atHand, topOf}
+use Rattle.geometry.specs.TagMemory.{blockOver, values}
+use Rattle.memory.specs.PlainReading.{plainGroupOf}
 use Rattle.tracker.specs.Transfers.{none}
 use Rattle.line.specs.Find.{lineOf}
 use Rattle.rules.specs.State.{trackerAt}
 use Rattle.rules.specs.Run.{Call, issues, steps, drains, lends, Kept, kept, does}
 use Rattle.flat.specs.Flat.{Flat, Unseen, Given}
 
--- Whether the leaf of the access that is stepped is in a line: all that an answer needs and the row does not say.
-abbrev pub found : Kept → ℕ → Bool
-found k x = ltb (lineOf (k .state .lines) (k .state .shape .l) (leafOf (trackerAt (k .state .trackers) x .group))) (k .state .shape .l)
+-- Whether the block of level e of the access that is stepped is in a line: all that an answer needs and the row does not say.
+abbrev pub found : Kept → (x e : ℕ) → Bool
+found k x e = ltb (lineOf (k .state .lines) (k .state .shape .l) (blockOver e (k .state .shape .n) (trackerAt (k .state .trackers) x .group))) (k .state .shape .l)
 
 -- with the transfers of its tracker after the step
 unfoldable pub unseen : Kept → Call → Unseen
-unseen k (issues x access) = record { found = false; transfers = none }
+unseen k (issues x access) = record { found = λ e. false; transfers = none }
 unseen k (steps x) = record { found = found k x; transfers = trackerAt (does k (steps x) .state .trackers) x .transfers }
-unseen k drains = record { found = false; transfers = none }
+unseen k drains = record { found = λ e. false; transfers = none }
 unseen k (lends b m c) = unseen k c
 
 -- the calls of a run as the flat row is given them
@@ -30,7 +30,7 @@ given k (c ∷ cs) = record { call = c; unseen = unseen k c } ∷ given (kept (d
 
 -- the flat machine at the beginning of a run: the row is what the memory reads
 abbrev pub flatOf : Kept → Flat
-flatOf k = record { shape = atHand (k .state .shape) 0; row = plainGroup (k .state .shape .n) (k .memory); trackers = k .state .trackers }
+flatOf k = record { shape = atHand (k .state .shape) 0; row = plainGroupOf (topOf (k .state .shape)) (k .state .shape .n) (k .memory); trackers = k .state .trackers }
 
 -- a call's value is an unsigned 32-bit number
 abbrev pub Value32 : Call → Type 0

@@ -2,26 +2,28 @@
 -- An access takes effect on the row at one moment, which its steps give: "A write takes effect at its Leaf step, or where it ends 'same'; a read where it ends."
 use mathlib.Core.List.{List, [], _∷_}
 use mathlib.Core.Bool.{Bool, true, false}
-use Prim.Native.Nat.{ℕ}
-use lib.Dec.{eqb}
+use Prim.Native.Nat.{ℕ, zero, suc}
+use lib.Dec.{eqb, ltb}
 use lib.ListN.{set}
 use Rattle.geometry.specs.declared.Shape.{Shape}
-use Rattle.geometry.specs.TagMemory.{groupOn, leafOf}
+use Rattle.geometry.specs.Shape.{belowTop, topOf}
+use Rattle.geometry.specs.TagMemory.{groupOn, leafOf, blockBits, index, blockOver}
 use Rattle.laws.specs.Choice.{pick, both, implies, no}
-use Rattle.laws.specs.Scan.{all}
+use Rattle.laws.specs.Scan.{all, some}
 use Rattle.laws.specs.Refusal.{refusal, unless}
 use Rattle.tracker.specs.declared.Phase.{Phase}
-use Rattle.tracker.specs.declared.Phase.the-variants.{Idle, Probe, Map, Leaf, Set, Clear}
+use Rattle.tracker.specs.declared.Phase.the-variants.{Idle, Probe, Top, Under, Set, Clear}
 use Rattle.tracker.specs.declared.Access.{Access}
 use Rattle.tracker.specs.declared.Transfers.{Transfers}
 use Rattle.tracker.specs.declared.Tracker.{Tracker}
-use Rattle.tracker.specs.Tracker.{idle, issued, isIdle, at, counted}
+use Rattle.tracker.specs.Tracker.{idle, issued, isIdle, at, counted, afterProbe, finishAt}
 use Rattle.tracker.specs.Answer.{Said, ok, wait, moved, read, done, same}
 use Rattle.rules.specs.State.{trackerAt, lengthsRight}
-use Rattle.rules.specs.Whole.{mapBlock, holds}
+use Rattle.rules.specs.Whole.{holds}
 use Rattle.rules.specs.Step.{turnsOf}
 use Rattle.rules.specs.Calls.{issueTests, stepTests, drainTests}
 use Rattle.rules.specs.Run.{Call, issues, steps, drains, lends}
+use Rattle.flat.specs.Levels.{reaches, others}
 
 abbrev pub Row : Type 0
 Row = ℕ → ℕ
@@ -57,21 +59,36 @@ pub data Course : Type 0 where
 -- A write that changes its leaf. "All 64 bytes now zero: .. on to Finish (clear). Not all zero, bit was 1: .. end 'done' .. Not all zero, bit was 0: .. on to Finish (set)."
 abbrev pub byTags : (before now : Bool) → Course
 byTags true true = ends
-byTags true false = takes Clear
-byTags false now = takes Set
+byTags true false = takes (Clear 0)
+byTags false now = takes (Set 0)
 
--- The course of a step at each phase; an idle tracker has no step. `found`: its leaf is in a line. `held`: another tracker holds its map block.
--- Probe: "Leaf in a line: a read ends with the group; a write whose group equals v ends 'same'. Otherwise on to Map."
--- Map: "If another tracker holds this map block: wait .. Bit 0: a read ends with 0; a write of 0 ends 'same'. Otherwise .. on to Leaf." The leaf has a tag exactly under bit 1.
--- Leaf: a read ends with the group; a write whose "group equal to v: end 'same'", else by the tags of its leaf before and after. Finish: "end 'done'".
-abbrev pub course : Row → (found held : Bool) → Tracker → Phase → Course
-course row found held t Idle = waits
-course row found held t Probe = pick (both found (changesNothing row t)) ends (goes Map)
-course row found held t Map = pick held waits (pick (both (no (tagged row (leafOf (t .group)))) (changesNothing row t)) ends (goes Leaf))
-course row found held t Leaf =
+-- the tracker's block of level e has a tag under it; and so has another under the same block of level e + 1
+abbrev pub hasTag : Row → Tracker → ℕ → Bool
+hasTag row t e = reaches blockBits (tagged row) e (index e (t .group))
+
+abbrev pub othersHave : Row → Tracker → ℕ → Bool
+othersHave row t e = others blockBits (tagged row) e (index e (t .group))
+
+-- Finish: "Finish map ends the access unless the top bit must change", exactly where no other block under the same one has a tag, for set and clear alike.
+abbrev pub onward : (below : ℕ) → Row → Tracker → (set : Bool) (d : ℕ) → Course
+onward below row t set d = pick (both (ltb d below) (no (othersHave row t d))) (goes (finishAt set (suc d))) finishes
+
+-- The course of a step at each phase; an idle tracker has no step. `below`: the level below the top. `found d`: its block of level d is in a line. `held`: another tracker holds its top block.
+-- Probe: "Leaf in a line: a read ends with the group; a write whose group equals v ends 'same'. Otherwise on to Map."; Probe map "ends a read, or a write of 0, on bit 0 if the map block has a line
+-- and nobody holds its top block". A block has a tag under it exactly under bit 1.
+-- Top, 01's Map: "If another tracker holds this map block: wait .. Bit 0: a read ends with 0; a write of 0 ends 'same'. Otherwise .. on to Leaf.", and so Map under it.
+-- Leaf: a read ends with the group; a write whose "group equal to v: end 'same'", else by the tags of its leaf before and after.
+abbrev pub course : (below : ℕ) → Row → (found : ℕ → Bool) (held : Bool) → Tracker → Phase → Course
+course below row found held t Idle = waits
+course below row found held t (Probe zero) = pick (both (found 0) (changesNothing row t)) ends (goes (afterProbe (suc below) 0))
+course below row found held t (Probe (suc e)) =
+    pick (both (both (found (suc e)) (no held)) (both (no (hasTag row t e)) (changesNothing row t))) ends (goes (afterProbe (suc below) (suc e)))
+course below row found held t Top = pick held waits (pick (both (no (hasTag row t below)) (changesNothing row t)) ends (goes (Under below)))
+course below row found held t (Under zero) =
     pick (changesNothing row t) ends (byTags (tagged row (leafOf (t .group))) (tagged (after row t) (leafOf (t .group))))
-course row found held t Set = finishes
-course row found held t Clear = finishes
+course below row found held t (Under (suc e)) = pick (both (no (hasTag row t e)) (changesNothing row t)) ends (goes (Under e))
+course below row found held t (Set d) = onward below row t true d
+course below row found held t (Clear d) = onward below row t false d
 
 -- What the step says, and the row and the tracker that it leaves; m are the transfers that a tracker that goes on then has.
 abbrev pub says : Row → Tracker → Course → Said
@@ -118,21 +135,22 @@ pub record Flat : Type 0 where
   pub trackers : List Tracker
 
 -- some tracker holds block b
-unfoldable pub someHolds : ℕ → ℕ → List Tracker → ℕ → Bool
-someHolds n t trackers b = no (all (λ y. no (holds n (trackerAt trackers y) b)) t)
+unfoldable pub someHolds : (top n t : ℕ) → List Tracker → ℕ → Bool
+someHolds top n t trackers b = some (λ y. holds top n (trackerAt trackers y) b) t
 
 -- the course of a step of tracker x
-abbrev pub courseOf : Flat → Bool → ℕ → Course
+abbrev pub courseOf : Flat → (ℕ → Bool) → ℕ → Course
 courseOf f found x =
     let t = trackerAt (f .trackers) x in
-    course (f .row) found (someHolds (f .shape .n) (f .shape .t) (f .trackers) (mapBlock (f .shape .n) (t .group))) t (t .phase)
+    let top = topOf (f .shape) in
+    course (belowTop (f .shape)) (f .row) found (someHolds top (f .shape .n) (f .shape .t) (f .trackers) (blockOver top (f .shape .n) (t .group))) t (t .phase)
 
 abbrev pub withRow : Flat → Row → ℕ → Tracker → Flat
 withRow f row x t = record { shape = f .shape; row = row; trackers = set (f .trackers) x t }
 
--- what the row cannot know of a step: whether its access's leaf is in a line, and the transfers that its tracker then has, which no answer shows
+-- what the row cannot know of a step: whether its access's block of a level is in a line, and the transfers that its tracker then has, which no answer shows
 pub record Unseen : Type 0 where
-  pub found : Bool
+  pub found : ℕ → Bool
   pub transfers : Transfers
 
 pub record Given : Type 0 where

@@ -7,7 +7,7 @@ use lib.ListN.{replicate}
 use Rattle.laws.specs.Choice.{both, no}
 use Rattle.laws.specs.Bytes.{part, fits, value, bytes, numberAt}
 use Rattle.laws.specs.Scan.{all}
-use Rattle.geometry.specs.TagMemory.{inLimits}
+use Rattle.geometry.specs.TagMemory.{inLimitsOf}
 use Rattle.block.specs.Block.{allZero}
 use Rattle.form.specs.Encode.{Form, version1, version2, formFor, recordBytes, headFront, headRest, blockFront}
 use Rattle.form.specs.Test.{recordAt, same, headSound, countRight, blockSound, soundAt, recordCount, goodAbove, lowest, goodRecord, lengthRight, rulesKept, testBy, formIn, formOf, imageTest}
@@ -58,7 +58,7 @@ pub record Broken : Type 0 where
   pub m-above : kept (image 2 (one (blockFront 1 1) 7 0)) ≡ false
 
 pub broken : Broken
-unfolding both no part fits value bytes numberAt all inLimits allZero version1 version2 formFor same headSound countRight blockSound soundAt recordCount goodAbove lowest goodRecord lengthRight rulesKept testBy
+unfolding both no part fits value bytes numberAt all inLimitsOf allZero version1 version2 formFor same headSound countRight blockSound soundAt recordCount goodAbove lowest goodRecord lengthRight rulesKept testBy
 broken = record {
   no-bytes = refl;
   no-leaves = refl;

@@ -20,14 +20,14 @@ unfolding mapBlocks
 length-most = refl
 
 -- a third level: one top block to 262,144 leaves, four at most
-pub length-3-one : lengthOf 3 262144 ≡ 16810048
+pub length-3-one : lengthOf 2 262144 ≡ 16810048
 unfolding mapBlocks
 length-3-one = refl
 
-pub length-3-two : lengthOf 3 262145 ≡ 16810240
+pub length-3-two : lengthOf 2 262145 ≡ 16810240
 unfolding mapBlocks
 length-3-two = refl
 
-pub length-3-most : lengthOf 3 (mostLeavesOf 3) ≡ 67240192
+pub length-3-most : lengthOf 2 (mostLeavesOf 2) ≡ 67240192
 unfolding mapBlocks
 length-3-most = refl

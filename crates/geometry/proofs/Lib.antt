@@ -5,3 +5,4 @@ pub mod Levels
 pub mod Groups
 pub mod One
 pub mod Tags
+pub mod Shapes

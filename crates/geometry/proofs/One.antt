@@ -3,12 +3,15 @@ use mathlib.Core.Path.{_≡_, sym, _∙_}
 use mathlib.Core.Bool.{Bool}
 use Prim.Native.Nat.{ℕ, _+_}
 use Rattle.geometry.specs.declared.Shape.{Shape}
-use Rattle.geometry.specs.Shape.{shapeOf, atHand}
-use Rattle.geometry.specs.TagMemory.{leafOf, byteOf, inLimits, mapBlockOf, mapByteOf, mapBitOf, mapBlocks, blocks, memoryLength, blockPlace, groupPlace, mapPlace}
+use Rattle.geometry.specs.Shape.{shapeOf, atHand, belowTop, topOf}
+use Rattle.geometry.specs.TagMemory.{leafOf, byteOf, inLimitsOf, inLimits, mapBlockOf, mapByteOf, mapBitOf, index, mapBlocks, blockOver, blocksOf, lengthOf, memoryLength, blockPlace, groupPlace, mapPlace}
 
 -- two results that equal one value are equal
 pub one : {A : Type 0} {d r s : A} → r ≡ d → s ≡ d → r ≡ s
 one p q = p ∙ sym q
+
+pub in-limits-of-one : (top n : ℕ) {r s : Bool} → r ≡ inLimitsOf top n → s ≡ inLimitsOf top n → r ≡ s
+in-limits-of-one top n = one
 
 pub in-limits-one : (n : ℕ) {r s : Bool} → r ≡ inLimits n → s ≡ inLimits n → r ≡ s
 in-limits-one n = one
@@ -28,11 +31,20 @@ map-byte-of-one k = one
 pub map-bit-of-one : (k : ℕ) {r s : ℕ} → r ≡ mapBitOf k → s ≡ mapBitOf k → r ≡ s
 map-bit-of-one k = one
 
+pub index-one : (e g : ℕ) {r s : ℕ} → r ≡ index e g → s ≡ index e g → r ≡ s
+index-one e g = one
+
 pub map-blocks-one : (n : ℕ) {r s : ℕ} → r ≡ mapBlocks n → s ≡ mapBlocks n → r ≡ s
 map-blocks-one n = one
 
-pub blocks-one : (n : ℕ) {r s : ℕ} → r ≡ blocks n → s ≡ blocks n → r ≡ s
-blocks-one n = one
+pub block-over-one : (e n g : ℕ) {r s : ℕ} → r ≡ blockOver e n g → s ≡ blockOver e n g → r ≡ s
+block-over-one e n g = one
+
+pub blocks-of-one : (top n : ℕ) {r s : ℕ} → r ≡ blocksOf top n → s ≡ blocksOf top n → r ≡ s
+blocks-of-one top n = one
+
+pub length-of-one : (top n : ℕ) {r s : ℕ} → r ≡ lengthOf top n → s ≡ lengthOf top n → r ≡ s
+length-of-one top n = one
 
 pub memory-length-one : (n : ℕ) {r s : ℕ} → r ≡ memoryLength n → s ≡ memoryLength n → r ≡ s
 memory-length-one n = one
@@ -51,6 +63,12 @@ map-place-one n k = one
 
 pub start-one : (n t l : ℕ) {r s : Shape} → r ≡ shapeOf n t l → s ≡ shapeOf n t l → r ≡ s
 start-one n t l = one
+
+pub below-top-one : (shape : Shape) {r s : ℕ} → r ≡ belowTop shape → s ≡ belowTop shape → r ≡ s
+below-top-one shape = one
+
+pub top-one : (shape : Shape) {r s : ℕ} → r ≡ topOf shape → s ≡ topOf shape → r ≡ s
+top-one shape = one
 
 pub at-hand-one : (shape : Shape) (h : ℕ) {r s : Shape} → r ≡ atHand shape h → s ≡ atHand shape h → r ≡ s
 at-hand-one shape h = one

@@ -157,10 +157,10 @@ group-inside n g h = let k = leafOf-lt n g h in let b = byteOf-lt g in omega ari
 pub bitPlace-after : (e n k : ℕ) → blockPlace (base (suc e) n) ≤ bitPlace e n k
 bitPlace-after e n k = omega arith
 
-pub bitPlace-before : (e n k : ℕ) → k < blockBits * count (suc e) n → bitPlace e n k < lengthOf (suc (suc e)) n
+pub bitPlace-before : (e n k : ℕ) → k < blockBits * count (suc e) n → bitPlace e n k < lengthOf (suc e) n
 bitPlace-before e n k h = omega (arith, bitPlace-is e n k)
 
-pub bitPlace-past : (e n k : ℕ) → blockBits * count (suc e) n ≤ k → lengthOf (suc (suc e)) n ≤ bitPlace e n k
+pub bitPlace-past : (e n k : ℕ) → blockBits * count (suc e) n ≤ k → lengthOf (suc e) n ≤ bitPlace e n k
 bitPlace-past e n k h = omega (arith, bitPlace-is e n k)
 
 -- in the map
@@ -186,3 +186,12 @@ map-one j k a b c = omega (arith, child-is j, child-is k)
 pub mapBlockOf-child : (j i : ℕ) → i < blockBits → mapBlockOf (blockBits * j + i) ≡ j
 unfolding mapBlockOf
 mapBlockOf-child j i h = omega arith
+
+-- and the byte and bit in it of each
+pub mapByteOf-child : (j i q : ℕ) → i < 64 → q < 8 → mapByteOf (blockBits * j + (8 * i + q)) ≡ i
+unfolding mapByteOf
+mapByteOf-child j i q h l = omega arith
+
+pub mapBitOf-child : (j i q : ℕ) → q < 8 → mapBitOf (blockBits * j + (8 * i + q)) ≡ q
+unfolding mapBitOf
+mapBitOf-child j i q l = omega arith

@@ -1,4 +1,4 @@
--- The limits and the address rules of 01 "The tag memory", in its order, over the number of levels (02, E5): 01's memory has two.
+-- The limits and the address rules of 01 "The tag memory", in its order, over the levels 0 to top (02, E5): 01's memory has the top level 1.
 use mathlib.Core.Bool.{Bool}
 use Prim.Native.Nat.{ℕ, zero, suc, _+_, _-_, _*_, _/_, _%_}
 use lib.Dec.{leb, eqb}
@@ -27,14 +27,17 @@ abbrev pub groupOn : ℕ → ℕ → ℕ
 groupOn k j = groups k + j
 
 -- "There are n leaves, 1 to 262,144."; with a third level "n up to 1,048,576". No other number of levels has any.
-abbrev pub mostLeavesOf : ℕ → ℕ
-mostLeavesOf levels = pick (eqb levels 2) 262144 (pick (eqb levels 3) 1048576 0)
+abbrev pub mostLeavesOf : (top : ℕ) → ℕ
+mostLeavesOf top = pick (eqb top 1) 262144 (pick (eqb top 2) 1048576 0)
 
 abbrev pub mostLeaves : ℕ
-mostLeaves = mostLeavesOf 2
+mostLeaves = mostLeavesOf 1
 
-unfoldable pub inLimits : ℕ → Bool
-inLimits n = both (leb 1 n) (leb n mostLeaves)
+unfoldable pub inLimitsOf : (top n : ℕ) → Bool
+inLimitsOf top n = both (leb 1 n) (leb n (mostLeavesOf top))
+
+abbrev pub inLimits : ℕ → Bool
+inLimits n = inLimitsOf 1 n
 
 -- "There are T trackers, 1 to 8, and L lines, T + 1 to 64."
 abbrev pub mostTrackers : ℕ
@@ -81,14 +84,21 @@ base (suc (suc e)) n = base (suc e) n + count (suc e) n
 abbrev pub blockOn : ℕ → ℕ → ℕ → ℕ
 blockOn e n k = base e n + k
 
-abbrev pub blocks : ℕ → ℕ
-blocks n = base 2 n
+-- the block of level e that group g lies under, among all blocks
+abbrev pub blockOver : (e n g : ℕ) → ℕ
+blockOver e n g = blockOn e n (index e g)
 
-abbrev pub lengthOf : ℕ → ℕ → ℕ
-lengthOf levels n = 64 * base levels n
+abbrev pub blocksOf : (top n : ℕ) → ℕ
+blocksOf top n = base (suc top) n
+
+abbrev pub blocks : ℕ → ℕ
+blocks n = blocksOf 1 n
+
+abbrev pub lengthOf : (top n : ℕ) → ℕ
+lengthOf top n = 64 * blocksOf top n
 
 abbrev pub memoryLength : ℕ → ℕ
-memoryLength n = lengthOf 2 n
+memoryLength n = lengthOf 1 n
 
 -- places in memory: of a block, of group g's first byte, and of the byte that has the bit of block k of level e; of leaf k
 abbrev pub blockPlace : ℕ → ℕ

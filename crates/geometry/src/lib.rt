@@ -1,15 +1,18 @@
 // 01 "The tag memory": the limits and the address rules, as a type of their own; and the shape of a cache over such a memory.
 // No public function has a `requires`: the number of a leaf, a group or a block is 32 bits wide, and places are counted in 64.
 ghost use mathlib.Core.Path.{_≡_};
-ghost use Prim.Native.Nat.{_+_};
-ghost use Rattle.geometry.specs.Shape.{shapeOf, atHand};
-ghost use Rattle.geometry.specs.TagMemory.{leafOf, byteOf, groups, inLimits, mapBlockOf, mapByteOf, mapBitOf, mapBlocks, blocks, memoryLength, blockPlace, groupPlace, mapPlace};
+ghost use Prim.Native.Nat.{_+_, _≤_};
+ghost use Rattle.geometry.specs.Shape.{shapeOf, atHand, belowTop, topOf};
+ghost use Rattle.geometry.specs.TagMemory.{leafOf, byteOf, groups, mostLeavesOf, inLimitsOf, inLimits, mapBlockOf, mapByteOf, mapBitOf, index, mapBlocks, base, blockOver, blocksOf, lengthOf, memoryLength, blockPlace, groupPlace, mapPlace};
 
 pub struct Geometry {}
 
 impl Geometry {
-    // The most leaves that a memory has; the fewest is one.
+    // The most leaves that a memory of two levels has; the fewest is one.
     pub const MOST_LEAVES: u64 = 262144;
+
+    // The most leaves that a memory of three levels has.
+    pub const MOST_LEAVES_3: u64 = 1048576;
 
     // The most trackers that a cache has; the fewest is one.
     pub const MOST_TRACKERS: usize = 8;
@@ -32,17 +35,37 @@ impl Geometry {
     // The bits of a byte.
     pub const BYTE_BITS: u32 = 8;
 
-    // n is a number of leaves that a memory can have.
-    pub fn in_limits(n: u64) -> bool
-        ensures { λ r. ⌜ r ≡ inLimits n ⌝ }
+    // The most leaves of a memory whose top level this is.
+    fn most_leaves(top: u8) -> u64
+        ensures { λ r. ⌜ r ≡ mostLeavesOf top ⌝ }
+    {
+        if top == 1 {
+            return Self::MOST_LEAVES;
+        }
+        if top == 2 {
+            return Self::MOST_LEAVES_3;
+        }
+        0
+    }
+
+    // n is a number of leaves that a memory of this top level can have.
+    pub fn in_limits_of(top: u8, n: u64) -> bool
+        ensures { λ r. ⌜ r ≡ inLimitsOf top n ⌝ }
     {
         if n < 1 {
             return false;
         }
-        if Self::MOST_LEAVES < n {
+        if Self::most_leaves(top) < n {
             return false;
         }
         true
+    }
+
+    // n is a number of leaves that a memory of two levels can have.
+    pub fn in_limits(n: u64) -> bool
+        ensures { λ r. ⌜ r ≡ inLimits n ⌝ }
+    {
+        Self::in_limits_of(1, n)
     }
 
     // The leaf of group g.
@@ -87,6 +110,19 @@ impl Geometry {
         k % Self::BYTE_BITS
     }
 
+    // The block of level e that group g lies under.
+    pub fn index(e: u8, g: u32) -> u32
+        ensures { λ r. ⌜ r ≡ index e g ⌝ }
+    {
+        let mut k = Self::leaf_of(g);
+        let mut i: u8 = 0;
+        while i < e {
+            k = Self::map_block_of(k);
+            i += 1;
+        }
+        k
+    }
+
     // The number of map blocks over n leaves.
     pub fn map_blocks(n: u32) -> u64
         ensures { λ r. ⌜ r ≡ mapBlocks n ⌝ }
@@ -94,18 +130,48 @@ impl Geometry {
         (n as u64 + (Self::BITS as u64 - 1)) / (Self::BITS as u64)
     }
 
-    // The blocks of a memory of n leaves.
-    pub fn blocks(n: u32) -> u64
-        ensures { λ r. ⌜ r ≡ blocks n ⌝ }
+    // The blocks of all levels below e, over n leaves.
+    fn base(e: u32, n: u32) -> u64
+        requires { ⌜ e ≤ 256 ⌝ }
+        ensures { λ r. ⌜ r ≡ base e n ⌝ }
     {
-        n as u64 + Self::map_blocks(n)
+        let mut below: u64 = 0;
+        let mut blocks = n;
+        let mut i: u32 = 0;
+        while i < e {
+            below += blocks as u64;
+            blocks = Self::map_blocks(blocks) as u32;
+            i += 1;
+        }
+        below
     }
 
-    // The bytes of a memory of n leaves.
+    // The block of level e that group g lies under, among all blocks of a memory of n leaves.
+    pub fn block_over(e: u8, n: u32, g: u32) -> u64
+        ensures { λ r. ⌜ r ≡ blockOver e n g ⌝ }
+    {
+        Self::base(e as u32, n) + (Self::index(e, g) as u64)
+    }
+
+    // The blocks of a memory of n leaves and this top level.
+    pub fn blocks_of(top: u8, n: u32) -> u64
+        ensures { λ r. ⌜ r ≡ blocksOf top n ⌝ }
+    {
+        Self::base(top as u32 + 1, n)
+    }
+
+    // The bytes of a memory of n leaves and this top level.
+    pub fn length_of(top: u8, n: u32) -> u64
+        ensures { λ r. ⌜ r ≡ lengthOf top n ⌝ }
+    {
+        Self::BLOCK_LEN as u64 * Self::blocks_of(top, n)
+    }
+
+    // The bytes of a memory of n leaves and two levels.
     pub fn memory_length(n: u32) -> u64
         ensures { λ r. ⌜ r ≡ memoryLength n ⌝ }
     {
-        Self::BLOCK_LEN as u64 * Self::blocks(n)
+        Self::length_of(1, n)
     }
 
     // The number, among all blocks of a memory of n leaves, of the map block with leaf k's bit.
@@ -151,6 +217,20 @@ impl Shape {
         ensures { λ r. ⌜ r ≡ shapeOf n t l ⌝ }
     {
         Shape { n, t, l, hand: 0 }
+    }
+
+    // The level below the top: that of the leaves.
+    pub fn below_top(self) -> u8
+        ensures { λ r. ⌜ r ≡ belowTop self ⌝ }
+    {
+        0
+    }
+
+    // The top level: that of the blocks that are held.
+    pub fn top(self) -> u8
+        ensures { λ r. ⌜ r ≡ topOf self ⌝ }
+    {
+        self.below_top() + 1
     }
 
     // The same with the hand at line h.

@@ -1,25 +1,22 @@
 -- What stands at the place that showing gives is the leaf that is shown.
 use mathlib.Core.Path.{_≡_, refl, ap, sym, _∙_}
 use mathlib.Core.List.{List, [], _∷_}
-use mathlib.Core.Logic.{_⊎_, inl, inr, ⊎-elim}
-use Prim.Native.Nat.{ℕ, zero, suc, _+_, _-_, _*_, _≤_, _<_}
+use mathlib.Core.Logic.{_⊎_, ⊎-elim}
+use Prim.Native.Nat.{ℕ, _+_, _-_, _*_, _≤_, _<_}
 use native.Mathlib.Omega.{arith}
 use borrow.Author.Tests.{lt-ltb, le-ltb, ne-eqb}
 use lib.ListN.{length}
 use Rattle.laws.specs.Bytes.{part}
+use Rattle.laws.proofs.Choice.{true-or-false}
 use Rattle.laws.proofs.Splice.{lt-or-ge}
 use Rattle.laws.proofs.Refusal.{refused-or-not}
+use Rattle.geometry.specs.Shape.{topOf}
 use Rattle.line.specs.Find.{lineOf}
 use Rattle.rules.specs.State.{State}
-use Rattle.rules.specs.Calls.{showNo, shownBit, show}
+use Rattle.rules.specs.Calls.{showNo, shownCounts, show}
 use Rattle.cache.proofs.Refusals.{show-in, show-line, show-memory, show-empty}
 use Rattle.harness.specs.Calls.{shownAt, bytesAt}
 use Rattle.harness.proofs.Ways.{shown-line, shown-empty, shown-memory}
-
-one-or-not : (b : ℕ) → (b ≡ 1) ⊎ (b ≡ 1 → ⊥)
-one-or-not zero = inr (λ e. omega arith)
-one-or-not (suc zero) = inl refl
-one-or-not (suc (suc b)) = inr (λ e. omega arith)
 
 empty : (l : List ℕ) → length l ≡ 0 → l ≡ []
 empty [] e = refl
@@ -50,4 +47,4 @@ module _ (s : State) (bytes memory : List ℕ) (k : ℕ) (e : showNo s bytes mem
       (lt-or-ge (lineOf (s .lines) (s .shape .l) k) (s .shape .l))
     where
       in-memory : s .shape .l ≤ lineOf (s .lines) (s .shape .l) k → (length (show s bytes memory k) ≡ 0 → ⊥) → show s bytes memory k ≡ part memory (64 * k) 64
-      in-memory h q = ⊎-elim (λ b. show-memory s bytes memory k e h b) (λ b. absurd (q (ap length (show-empty s bytes memory k e h b)))) (one-or-not (shownBit s bytes memory k))
+      in-memory h q = ⊎-elim (λ b. show-memory s bytes memory k e h b) (λ b. absurd (q (ap length (show-empty s bytes memory k e h b)))) (true-or-false (shownCounts s bytes memory (topOf (s .shape)) 0 k))

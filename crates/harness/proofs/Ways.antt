@@ -13,15 +13,17 @@ use Rattle.laws.specs.Refusal.{refusal, unless}
 use Rattle.laws.proofs.Choice.{both-when, both-false-left}
 use Rattle.laws.proofs.Splice.{lt-or-ge}
 use Rattle.laws.proofs.Refusal.{refusal-0, refusal-first, unless-0, unless-no}
-use Rattle.geometry.specs.TagMemory.{groups, mostLeaves, values}
+use Rattle.geometry.specs.Shape.{topOf}
+use Rattle.geometry.specs.TagMemory.{groups, values}
 use Rattle.geometry.proofs.Places.{groups-most}
+use Rattle.geometry.proofs.Levels.{leaves-most}
 use Rattle.line.specs.Find.{lineOf}
 use Rattle.tracker.specs.declared.Transfers.{Transfers}
 use Rattle.tracker.specs.Answer.{Said}
 use Rattle.rules.specs.State.{State, zeroState}
 use Rattle.rules.specs.Whole.{whole}
 use Rattle.rules.specs.Calls.{Out, issueNo, issueTests, issue, step, showNo, show}
-use Rattle.rules.proofs.Whole.{n-most, whole-facts}
+use Rattle.rules.proofs.Whole.{inLimits-of, whole-facts}
 use Rattle.cache.specs.Seen.{unfit}
 use Rattle.cache.proofs.Refusals.{issue-unfit, issue-fit, issue-refused, fit-whole}
 use Rattle.coding.specs.Words.{stateWords, coded, decoded, codes}
@@ -91,8 +93,8 @@ module _ (s : State) (bytes memory : List ℕ) (x write bottom v : ℕ) where
       ⊎-elim
       (λ p. rw (ne-eqb (unfit s bytes memory) 0 (λ e. absurd (omega arith))) (issue-unfit s bytes memory x (accessOf write bottom g v) p))
       (λ q. let z : unfit s bytes memory ≡ 0 = omega arith in
-      let n : s .shape .n ≤ mostLeaves = n-most _ (whole-facts s (fit-whole s bytes memory z) .limits-ok) in
-      let past : ltb g (groups (s .shape .n)) ≡ false = le-ltb g (groups (s .shape .n)) (omega (arith, groups-most (s .shape .n) 262144 n)) in
+      let n : s .shape .n ≤ 1048576 = leaves-most (topOf (s .shape)) (s .shape .n) (inLimits-of _ (whole-facts s (fit-whole s bytes memory z) .limits-ok)) in
+      let past : ltb g (groups (s .shape .n)) ≡ false = le-ltb g (groups (s .shape .n)) (omega (arith, groups-most (s .shape .n) 1048576 n)) in
       rw (eq-eqb (unfit s bytes memory) 0 z) (issue-fit s bytes memory x (accessOf write bottom g v) z ∙ by-x (ltb x (s .shape .t)) refl past))
       (lt-or-ge 0 (unfit s bytes memory))
     where

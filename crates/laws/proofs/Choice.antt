@@ -1,7 +1,7 @@
 -- Laws of tests: what a test that came out true or false says of its parts.
 use mathlib.Core.Path.{_≡_, refl, sym}
 use mathlib.Core.Bool.{Bool, true, false, not}
-use mathlib.Core.Logic.{_⊎_, inl, inr}
+use mathlib.Core.Logic.{_⊎_, inl, inr, ⊎-elim}
 use Prim.Native.Nat.{ℕ}
 use native.Mathlib.Omega.{arith}
 use Rattle.laws.specs.Choice.{pick, both, either, implies, no}
@@ -12,6 +12,9 @@ not-both-ways {b} p q = let z : _≡_ {A = ℕ} 0 1 = cc in omega arith
 pub true-or-false : (b : Bool) → (b ≡ true) ⊎ (b ≡ false)
 true-or-false true = inl refl
 true-or-false false = inr refl
+
+pub never-true : {b : Bool} → (b ≡ true → ⊥) → b ≡ false
+never-true {b} n = ⊎-elim (λ t. absurd (n t)) (λ f. f) (true-or-false b)
 
 -- what holds of both holds of the one that is picked
 pub pick-by : {A : Type 0} (P : A → Type 0) (b : Bool) {p q : A} → (b ≡ true → P p) → (b ≡ false → P q) → P (pick b p q)
@@ -69,6 +72,14 @@ pub no-false : (b : Bool) → no b ≡ false → b ≡ true
 unfolding no
 no-false true h = refl
 no-false false h = sym h
+
+pub no-of-true : {b : Bool} → b ≡ true → no b ≡ false
+unfolding no
+no-of-true e = rw e
+
+pub no-of-false : {b : Bool} → b ≡ false → no b ≡ true
+unfolding no
+no-of-false e = rw e
 
 pub implies-true : (a b : Bool) → implies a b ≡ true → a ≡ true → b ≡ true
 unfolding implies

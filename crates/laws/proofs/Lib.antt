@@ -4,6 +4,7 @@ pub mod Put
 pub mod Writes
 pub mod Value
 pub mod Scan
+pub mod Some
 pub mod Bits
 pub mod Pigeon
 pub mod Refusal

@@ -1,8 +1,8 @@
--- Scans by a test on numbers: the first below n at which it holds, whether it holds at each, and at how many.
+-- Scans by a test on numbers: the first below n at which it holds, whether it holds at each or at some, and at how many.
 use mathlib.Core.Bool.{Bool, true}
 use Prim.Native.Nat.{ℕ, zero, suc, _+_}
 use lib.Dec.{ltb, leb}
-use Rattle.laws.specs.Choice.{pick, both, one}
+use Rattle.laws.specs.Choice.{pick, both, no, one}
 
 -- the least i below n at which p holds; n where there is none
 unfoldable pub first : (ℕ → Bool) → ℕ → ℕ
@@ -13,6 +13,10 @@ first p (suc n) = pick (ltb (first p n) n) (first p n) (pick (p n) n (suc n))
 unfoldable pub all : (ℕ → Bool) → ℕ → Bool
 all p zero = true
 all p (suc n) = both (all p n) (p n)
+
+-- p holds at some i below n
+unfoldable pub some : (ℕ → Bool) → ℕ → Bool
+some p n = no (all (λ i. no (p i)) n)
 
 -- at how many i below n does p hold
 unfoldable pub count : (ℕ → Bool) → ℕ → ℕ

@@ -1,12 +1,10 @@
 -- Two results that a promise allows for one input are equal: both are the rule's.
-use mathlib.Core.Path.{_≡_, sym, _∙_}
-use mathlib.Core.Bool.{Bool}
+use mathlib.Core.Path.{_≡_}
 use mathlib.Core.List.{List, []}
 use Prim.Native.Nat.{ℕ}
 use Rattle.geometry.specs.declared.Shape.{Shape}
 use Rattle.tracker.specs.declared.Tracker.{Tracker}
 use Rattle.rules.specs.State.{Rows}
-use Rattle.rules.specs.Step.{letGo}
 use Rattle.placing.specs.Lines.{rows}
 use Rattle.outcome.specs.declared.Turned as left
 use Rattle.outcome.specs.Steps.{turned}
@@ -18,10 +16,7 @@ pub probe-one : (shape : Shape) (t : Tracker) (lines bytes : List ℕ) (r s : le
     → ((m : List ℕ) → turned s lines bytes m ≡ probeOn shape t (rows lines bytes m)) → r ≡ s
 probe-one shape t lines bytes r s p q = turned-one r s _ _ _ _ _ _ (p []) (q [])
 
-pub leaf-one : (shape : Shape) (j bit : ℕ) (t : Tracker) (was : Rows) (r s : left.Turned) (ls bs m ls′ bs′ m′ : List ℕ)
-    → turned r ls bs m ≡ leafOn shape j bit t was
-    → turned s ls′ bs′ m′ ≡ leafOn shape j bit t was → (r ≡ s) × (rows ls bs m ≡ rows ls′ bs′ m′)
-leaf-one shape j bit t was r s ls bs m ls′ bs′ m′ p q = (turned-one r s _ _ _ _ _ _ p q, rows-one r s _ _ _ _ _ _ p q)
-
-pub let-go-one : (changed : Bool) (lines : List ℕ) (i : ℕ) {r s : List ℕ} → r ≡ letGo changed lines i → s ≡ letGo changed lines i → r ≡ s
-let-go-one changed lines i p q = p ∙ sym q
+pub leaf-one : (shape : Shape) (t : Tracker) (was : Rows) (r s : left.Turned) (ls bs m ls′ bs′ m′ : List ℕ)
+    → turned r ls bs m ≡ leafOn shape t was
+    → turned s ls′ bs′ m′ ≡ leafOn shape t was → (r ≡ s) × (rows ls bs m ≡ rows ls′ bs′ m′)
+leaf-one shape t was r s ls bs m ls′ bs′ m′ p q = (turned-one r s _ _ _ _ _ _ p q, rows-one r s _ _ _ _ _ _ p q)

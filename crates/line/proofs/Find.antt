@@ -73,6 +73,11 @@ module _ (lines : List ℕ) (b : ℕ) where
       lineOf-none l
       (λ k h. ⊎-elim (λ (q : k < e). none-lineOf e k n q) (λ (q : e ≤ k). rw (past lines k (omega arith)) (free-has b)) (lt-or-ge k e))
 
+  -- the one that has it is one of the row's
+  pub lineOf-in : (l : ℕ) → lineOf lines l b < l → lineOf lines l b < length lines
+  lineOf-in l h =
+      ⊎-elim (λ q. q) (λ (q : length lines ≤ lineOf lines l b). absurd (not-both-ways (lineOf-has l h) (rw (past lines (lineOf lines l b) q) (free-has b)))) (lt-or-ge (lineOf lines l b) (length lines))
+
 module _ (lines : List ℕ) where
   pub lowestFree-zero : lowestFree lines 0 ≡ 0
   unfolding lowestFree

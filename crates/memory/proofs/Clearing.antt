@@ -8,7 +8,7 @@ use native.Mathlib.Omega.{arith}
 use borrow.Rule.Slice.PartMut.{putMid}
 use lib.ListN.{length, take, drop, getD, replicate, length-append, length-take, length-replicate, getD-replicate, List·getD-append, List·getD-eq-default}
 use lib.Seq.{take-all, getD-take, getD-append-add, length-take-le, ext-getD}
-use Rattle.geometry.specs.TagMemory.{groups, tagOf, inLimits, memoryLength, base, blockPlace, bitPlace, mapBlockOf, mapBitOf, leafOf}
+use Rattle.geometry.specs.TagMemory.{groups, tagOf, inLimits, lengthOf, memoryLength, base, blockPlace, bitPlace, mapBlockOf, mapBitOf, leafOf}
 use Rattle.laws.proofs.Splice.{lt-or-ge, getD-part}
 use Rattle.geometry.proofs.Tags.{tagOf-0}
 use Rattle.geometry.proofs.Places.{bitPlace-after}
@@ -18,6 +18,10 @@ use Rattle.memory.specs.True.{blockAt, isTrueOf, isTrue, clearedOf, clea
 use Rattle.memory.proofs.Parts.{zeros-is, length-of-part, part-short}
 use Rattle.memory.proofs.Reading.{counts-0, counts-stale, plainGroupOf-0, accepted}
 use Rattle.memory.proofs.Truth.{trueFrom-all, trueOn-0}
+
+-- the top blocks come after those of a memory of one level less
+pub top-place-is : (top n : ℕ) {a : ℕ} → 0 < top → a ≡ lengthOf (top - 1) n → a ≡ blockPlace (base top n)
+top-place-is top n h e = let z : suc (top - 1) ≡ top = omega arith in e ∙ ap (λ (x : ℕ). blockPlace (base x n)) z
 
 module _ (top n : ℕ) (m : List ℕ) where
   -- no byte of a top block is there
@@ -82,15 +86,6 @@ module _ (t n : ℕ) (m : List ℕ) where
 
 -- of two levels: the map
 module _ (n : ℕ) (m : List ℕ) where
-  pub clearedMap-none : length m ≤ blockPlace n → clearedMap n m ≡ m
-  unfolding clearedMap
-  clearedMap-none h = clearedOf-none 1 n m h
-
-  pub clearedMap-is : (a : ℕ) {y : List ℕ} → a ≡ blockPlace n → a ≤ length m → y ≡ replicate (length (take (length m - a) (drop a m))) 0
-      → putMid a (length m - a) m y ≡ clearedMap n m
-  unfolding clearedMap
-  clearedMap-is a e h q = clearedOf-is 1 n m a e h q
-
   pub length-clearedMap : length (clearedMap n m) ≡ length m
   unfolding clearedMap
   length-clearedMap = length-clearedOf 1 n m

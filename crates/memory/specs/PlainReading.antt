@@ -4,7 +4,7 @@ use mathlib.Core.Bool.{Bool, true}
 use Prim.Native.Nat.{ℕ, zero, suc, _+_}
 use lib.ListN.{length}
 use lib.Dec.{eqb, ltb}
-use Rattle.geometry.specs.TagMemory.{groups, leafOf, inLimits, memoryLength, mapBlockOf, mapBitOf, groupPlace, bitPlace}
+use Rattle.geometry.specs.TagMemory.{groups, leafOf, inLimitsOf, lengthOf, mapBlockOf, mapBitOf, groupPlace, bitPlace}
 use Rattle.laws.specs.Choice.{pick, both}
 use Rattle.laws.specs.Refusal.{Tests, refusal, unless}
 use Rattle.block.specs.Block.{groupAt, bitAt}
@@ -30,13 +30,19 @@ unfoldable pub plainGroup : ℕ → List ℕ → ℕ → ℕ
 plainGroup n m g = plainGroupOf 1 n m g
 
 -- what a call asks first of a memory lent for n leaves, 1 and 2
+abbrev pub sizedOf : ℕ → ℕ → List ℕ → Tests
+sizedOf top n m = (inLimitsOf top n, 1) ∷ (eqb (length m) (lengthOf top n), 2) ∷ []
+
 abbrev pub sized : ℕ → List ℕ → Tests
-sized n m = (inLimits n, 1) ∷ (eqb (length m) (memoryLength n), 2) ∷ []
+sized n m = sizedOf 1 n m
 
 -- "plain reading 1, 2, 6"
-abbrev pub readingTests : ℕ → List ℕ → ℕ → Tests
-readingTests n m g = sized n m ++ (ltb g (groups n), 6) ∷ []
+abbrev pub readingTestsOf : ℕ → ℕ → List ℕ → ℕ → Tests
+readingTestsOf top n m g = sizedOf top n m ++ (ltb g (groups n), 6) ∷ []
 
 -- "Plain reading gives the group, or 4,294,967,296 plus the refusal"
+abbrev pub plainReadingOf : ℕ → ℕ → List ℕ → ℕ → ℕ
+plainReadingOf top n m g = unless (refusal (readingTestsOf top n m g)) (plainGroupOf top n m g) (λ c. 4294967296 + c)
+
 unfoldable pub plainReading : ℕ → List ℕ → ℕ → ℕ
-plainReading n m g = unless (refusal (readingTests n m g)) (plainGroup n m g) (λ c. 4294967296 + c)
+plainReading n m g = plainReadingOf 1 n m g

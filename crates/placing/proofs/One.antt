@@ -18,7 +18,7 @@ bytes-fit-one l bytes p q = p ∙ sym q
 pub rows-fit-one : (l : ℕ) (lines bytes : List ℕ) {a b : Bool} → a ≡ rowsFit l lines bytes → b ≡ rowsFit l lines bytes → a ≡ b
 rows-fit-one l lines bytes p q = p ∙ sym q
 
--- what `place`, `fetch` and `bring_in` leave: the line, the shape, the copies and the rows
+-- what `place`, `fetch`, `bring_in` and `create` leave: the line, the shape, the copies and the rows
 pub brought-one : {d : Brought} (a b : Spot) (ls bs m ls′ bs′ m′ : List ℕ) → brought a ls bs m ≡ d → brought b ls′ bs′ m′ ≡ d → (a ≡ b) × (rows ls bs m ≡ rows ls′ bs′ m′)
 brought-one a b ls bs m ls′ bs′ m′ p q =
     let e : brought a ls bs m ≡ brought b ls′ bs′ m′ = p ∙ sym q in

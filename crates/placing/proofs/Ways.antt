@@ -3,7 +3,7 @@ use mathlib.Core.Path.{_≡_, refl, sym, ap, _∙_}
 use mathlib.Core.List.{List, [], _∷_, _++_}
 use mathlib.Core.Bool.{Bool, true, false}
 use mathlib.Core.Logic.{⊎-elim}
-use Prim.Native.Nat.{ℕ, _+_, _*_, _/_, _%_, _≤_, _<_}
+use Prim.Native.Nat.{ℕ, suc, _+_, _*_, _/_, _%_, _≤_, _<_}
 use native.Mathlib.Omega.{arith}
 use native.Mathlib.Numerals.{add-one}
 use lib.Dec.{eqb, ltb}
@@ -12,9 +12,11 @@ use borrow.Author.Tests.{lt-ltb, le-ltb, le-leb, lt-leb, ltb-true, leb-true, eqb
 use Rattle.laws.specs.Choice.{pick, both}
 use Rattle.laws.proofs.Choice.{true-or-false, both-true, both-left, both-right}
 use Rattle.laws.specs.Bytes.{part, fits, putW}
+use Rattle.laws.proofs.Put.{putW-not}
 use Rattle.geometry.specs.declared.Shape.{Shape}
-use Rattle.geometry.specs.Shape.{atHand}
+use Rattle.geometry.specs.Shape.{atHand, topOf}
 use Rattle.geometry.specs.TagMemory.{blockPlace}
+use Rattle.geometry.proofs.Shapes.{below-hand}
 use Rattle.block.specs.Block.{blockOr0}
 use Rattle.block.proofs.Blocks.{copy-fits}
 use Rattle.tracker.specs.declared.Transfers.{Transfers}
@@ -25,7 +27,7 @@ use Rattle.line.proofs.Words.{changed-none}
 use Rattle.line.proofs.Find.{lowestFree-free}
 use Rattle.rules.specs.State.{Rows}
 use Rattle.rules.specs.Copies.{Copy, fetch, fetches, backs, tally}
-use Rattle.rules.specs.Place.{rowsFit, placeLine, placeHand, writtenBack, backOf, placeMemory, placeCopies, Brought, bringIn, drained, drainCopies}
+use Rattle.rules.specs.Place.{rowsFit, placeLine, placeHand, writtenBack, backOf, placeMemory, placeCopies, Brought, filled, bringIn, create, drained, drainCopies}
 use Rattle.rules.proofs.Copies.{tally-++}
 use Rattle.placing.specs.Lines.{rows, placed, fetched, allDrained, drainedOn, leaves}
 
@@ -63,6 +65,9 @@ lines-enough l lines bytes h e = rw (le-leb _ _ h) e
 abbrev pub left : (line : ℕ) (shape : Shape) (copies : Transfers) (lines bytes memory : List ℕ) → Brought
 left line shape copies lines bytes memory = record { line = line; shape = shape; rows = rows lines bytes memory; copies = copies }
 
+abbrev with-rows : (line : ℕ) (shape : Shape) (copies : Transfers) → Rows → Brought
+with-rows line shape copies r = record { line = line; shape = shape; rows = r; copies = copies }
+
 -- what an equation of two such says of each part
 module _ {b c : Brought} (e : b ≡ c) where
   pub line-is : b .line ≡ c .line
@@ -79,6 +84,18 @@ module _ {b c : Brought} (e : b ≡ c) where
 
   pub copies-are : b .copies ≡ c .copies
   copies-are = ap (λ (y : Brought). y .copies) e
+
+-- a line, a shape and copies with equal rows
+by-rows : {line : ℕ} {shape : Shape} {copies : Transfers} {r s : Rows} → r ≡ s → with-rows line shape copies r ≡ with-rows line shape copies s
+by-rows e = rw e refl
+
+-- a line is filled: where the line bytes have it, and where not
+module _ (i b : ℕ) (c : Bool) (lines bytes y m : List ℕ) {w : ℕ} (ew : w ≡ word b c 0) where
+  pub filled-past : length bytes / 64 ≤ i → rows (set lines i w) bytes m ≡ filled (rows lines bytes m) i b c y
+  filled-past h = rw (ew, putW-not 64 bytes (64 * i) y (omega arith)) refl
+
+  pub filled-in : {bs : List ℕ} → bs ≡ putW 64 bytes (64 * i) y → rows (set lines i w) bs m ≡ filled (rows lines bytes m) i b c y
+  filled-in eb = rw (ew, eb) refl
 
 -- writing line i back: a clean one, and a changed one straight from its bytes
 module _ (lines bytes memory : List ℕ) (i : ℕ) where
@@ -166,13 +183,35 @@ module _ (shape : Shape) (lines bytes memory : List ℕ) where
         let o : shape .l ≤ placeLine shape lines bytes = omega (arith, line-is g) in
         rw (memory-is g ∙ placed-same o, ez) (sym (rw (le-ltb _ _ o) refl))
 
-    pub fetched-is : (p : ℕ) (y : Shape) (k z : Transfers) (w at : ℕ) (bs m v : List ℕ) → left p y k lines bytes m ≡ placed shape (rows lines bytes memory) → p < shape .l
-        → w ≡ word b false 0 → at ≡ blockPlace b → v ≡ blockOr0 m at → bs ≡ putW 64 bytes (blockPlace p) v → z ≡ plus k (record { fetched = 1; back = 0 })
-        → left p y z (set lines p w) bs m ≡ fetched shape b (rows lines bytes memory)
+    pub fetched-is : (p : ℕ) (y : Shape) (k z : Transfers) (at : ℕ) (ls bs m v : List ℕ) → left p y k lines bytes m ≡ placed shape (rows lines bytes memory) → p < shape .l
+        → at ≡ blockPlace b → v ≡ blockOr0 m at → rows ls bs m ≡ filled (rows lines bytes m) p b false v → z ≡ plus k (record { fetched = 1; back = 0 })
+        → left p y z ls bs m ≡ fetched shape b (rows lines bytes memory)
     unfolding fetched
-    fetched-is p y k z w at bs m v g h ew ea ev eb ez =
+    fetched-is p y k z at ls bs m v g h ea ev ef ez =
         let o : placeLine shape lines bytes < shape .l = omega (arith, line-is g) in
-        rw (eb, ev, ea, ew, ez, copies-are g, line-is g, shape-is g, memory-is g) (sym (rw (lt-ltb _ _ o, one-fetched b (placeCopies shape (rows lines bytes memory))) refl))
+        by-rows ef ∙ rw (ev, ea, ez, copies-are g, line-is g, shape-is g, memory-is g) (sym (rw (lt-ltb _ _ o, one-fetched b (placeCopies shape (rows lines bytes memory))) refl))
+
+    -- creating one, whose line is known, or that is placed
+    module _ (y : List ℕ) where
+      pub create-lined : (i : ℕ) {z : Transfers} (ls bs : List ℕ) → i ≡ lineOf lines (shape .l) b → i < shape .l → z ≡ none
+          → rows ls bs memory ≡ filled (rows lines bytes memory) i b true y → left i shape z ls bs memory ≡ create shape b y (rows lines bytes memory)
+      unfolding create
+      create-lined i ls bs e h ez ef =
+          let o : lineOf lines (shape .l) b < shape .l = omega arith in
+          by-rows ef ∙ rw (e, ez) (sym (rw (lt-ltb _ _ o) refl))
+
+      module _ (e : shape .l ≤ lineOf lines (shape .l) b) (p : ℕ) (next : Shape) (k : Transfers) (m : List ℕ) (g : left p next k lines bytes m ≡ placed shape (rows lines bytes memory)) where
+        pub create-none : {z : Transfers} → shape .l ≤ p → z ≡ none → left (shape .l) shape z lines bytes m ≡ create shape b y (rows lines bytes memory)
+        unfolding create
+        create-none h ez =
+            let o : shape .l ≤ placeLine shape lines bytes = omega (arith, line-is g) in
+            rw (memory-is g ∙ placed-same o, ez) (sym (rw (le-ltb _ _ e, le-ltb _ _ o) refl))
+
+        pub create-placed : (ls bs : List ℕ) → p < shape .l → rows ls bs m ≡ filled (rows lines bytes m) p b true y → left p next k ls bs m ≡ create shape b y (rows lines bytes memory)
+        unfolding create
+        create-placed ls bs h ef =
+            let o : placeLine shape lines bytes < shape .l = omega (arith, line-is g) in
+            by-rows ef ∙ rw (copies-are g, line-is g, shape-is g, memory-is g) (sym (rw (le-ltb _ _ e, lt-ltb _ _ o) refl))
 
     pub bringIn-found : (i : ℕ) {z : Transfers} → i ≡ lineOf lines (shape .l) b → i < shape .l → z ≡ none → left i shape z lines bytes memory ≡ bringIn shape b (rows lines bytes memory)
     unfolding bringIn
@@ -204,6 +243,37 @@ bringIn-same shape b lines bytes memory h = same (ltb (lineOf lines (shape .l) b
     same : (f : Bool) → ltb (lineOf lines (shape .l) b) (shape .l) ≡ f → bringIn shape b (rows lines bytes memory) .rows ≡ rows lines bytes memory
     same true e = rw e refl
     same false e = rw e (fetched-same shape b (rows lines bytes memory) (rw e at h))
+
+pub create-same : (shape : Shape) (b : ℕ) (y : List ℕ) (r : Rows) → shape .l ≤ create shape b y r .line → create shape b y r .rows ≡ r
+unfolding create
+create-same shape b y r h = lined (ltb (lineOf (r .lines) (shape .l) b) (shape .l)) refl
+  where
+    placed-is : (p : Bool) → ltb (lineOf (r .lines) (shape .l) b) (shape .l) ≡ false → ltb (placeLine shape (r .lines) (r .bytes)) (shape .l) ≡ p → create shape b y r .rows ≡ r
+    placed-is true e q =
+        let a : placeLine shape (r .lines) (r .bytes) < shape .l = ltb-true _ _ q in
+        let o : shape .l ≤ placeLine shape (r .lines) (r .bytes) = rw (e, q) at h in
+        absurd (omega arith)
+    placed-is false e q = rw (e, q) refl
+
+    lined : (f : Bool) → ltb (lineOf (r .lines) (shape .l) b) (shape .l) ≡ f → create shape b y r .rows ≡ r
+    lined true e =
+        let a : lineOf (r .lines) (shape .l) b < shape .l = ltb-true _ _ e in
+        let o : shape .l ≤ lineOf (r .lines) (shape .l) b = rw e at h in
+        absurd (omega arith)
+    lined false e = placed-is (ltb (placeLine shape (r .lines) (r .bytes)) (shape .l)) e refl
+
+-- bringing in leaves the levels
+pub bringIn-top : (shape : Shape) (b : ℕ) (r : Rows) → topOf (bringIn shape b r .shape) ≡ topOf shape
+unfolding bringIn
+bringIn-top shape b r = lined (ltb (lineOf (r .lines) (shape .l) b) (shape .l)) refl
+  where
+    placed-top : (p : Bool) → ltb (lineOf (r .lines) (shape .l) b) (shape .l) ≡ false → ltb (placeLine shape (r .lines) (r .bytes)) (shape .l) ≡ p → topOf (bringIn shape b r .shape) ≡ topOf shape
+    placed-top true e q = rw (e, q) (ap suc (below-hand shape (placeHand shape (r .lines) (r .bytes))))
+    placed-top false e q = rw (e, q) refl
+
+    lined : (f : Bool) → ltb (lineOf (r .lines) (shape .l) b) (shape .l) ≡ f → topOf (bringIn shape b r .shape) ≡ topOf shape
+    lined true e = rw e refl
+    lined false e = placed-top (ltb (placeLine shape (r .lines) (r .bytes)) (shape .l)) e refl
 
 -- the first i of l lines of the rows r are drained
 pub record Draining (l i : ℕ) (r : Rows) (copies : Transfers) (lines memory : List ℕ) : Type 0 where

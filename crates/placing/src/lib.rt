@@ -4,11 +4,12 @@ use geometry::Geometry;
 use geometry::Shape;
 use tracker::Transfers;
 ghost use mathlib.Core.Path.{_≡_};
-ghost use Prim.Native.Nat.{_+_, _*_, _≤_, _<_};
+ghost use mathlib.Core.List.{List};
+ghost use Prim.Native.Nat.{ℕ, _+_, _*_, _≤_, _<_};
 ghost use lib.Dec.{eqb};
 ghost use lib.ListN.{length};
 ghost use Rattle.rules.specs.Copies.{tally};
-ghost use Rattle.rules.specs.Place.{rowsFit, writtenBack, backOf, bringIn};
+ghost use Rattle.rules.specs.Place.{rowsFit, writtenBack, backOf, filled, bringIn, create};
 ghost use Rattle.placing.specs.Lines.{rows, placed, fetched, brought, allDrained, drainedOn, leaves};
 
 // A line, L for none, the shape with its hand, and the sums of the copies that were made.
@@ -92,6 +93,25 @@ pub fn place(shape: Shape, lines: &[u32], bytes: &[u8], memory: &mut [u8]) -> Sp
     }
 }
 
+// Line i has block b with these bytes, changed or clean; line bytes that have no such line stay as they were.
+fn fill(
+    i: usize,
+    b: u32,
+    changed: bool,
+    block: &[u8; Geometry::BLOCK_LEN],
+    lines: &mut [u32],
+    bytes: &mut [u8],
+)
+    requires { ⌜ i < length (now lines) ⌝ }
+    ensures { λ _. ⌜ ((m : List ℕ) → rows (now (lines .exit)) (now (bytes .exit)) m ≡ filled (rows (now (lines .entry)) (now (bytes .entry)) m) i b changed (now (block .entry))) ⌝ }
+{
+    lines[i] = line::word(b, changed, 0);
+    if bytes.len() / Geometry::BLOCK_LEN <= i {
+        return;
+    }
+    block::write_block(bytes, Geometry::BLOCK_LEN * i, block);
+}
+
 // Bringing in a block that no line has: it is placed, and its 64 bytes are copied from memory, clean.
 pub fn fetch(shape: Shape, b: u32, lines: &mut [u32], bytes: &mut [u8], memory: &mut [u8]) -> Spot
     ensures { λ r. ⌜ brought r (now (lines .exit)) (now (bytes .exit)) (now (memory .exit)) ≡ fetched shape b (rows (now (lines .entry)) (now (bytes .entry)) (now (memory .entry))) ⌝ }
@@ -107,8 +127,7 @@ pub fn fetch(shape: Shape, b: u32, lines: &mut [u32], bytes: &mut [u8], memory: 
         };
     }
     let block = block::read_block(memory, Geometry::block_place(b));
-    lines[p] = line::word(b, false, 0);
-    block::write_block(bytes, Geometry::BLOCK_LEN * p, &block);
+    fill(p, b, false, &block, lines, bytes);
     let next = spot.shape;
     let copies = spot.copies;
     let one = Transfers {
@@ -142,6 +161,41 @@ pub fn bring_in(
         };
     }
     fetch(shape, b, lines, bytes, memory)
+}
+
+// Block b with these bytes into the line that has it, else it is placed; changed, and never fetched.
+pub fn create(
+    shape: Shape,
+    b: u32,
+    block: &[u8; Geometry::BLOCK_LEN],
+    lines: &mut [u32],
+    bytes: &mut [u8],
+    memory: &mut [u8],
+) -> Spot
+    ensures { λ r. ⌜ brought r (now (lines .exit)) (now (bytes .exit)) (now (memory .exit)) ≡ create shape b (now (block .entry)) (rows (now (lines .entry)) (now (bytes .entry)) (now (memory .entry))) ⌝ }
+{
+    let l = shape.l;
+    let none = Transfers::none();
+    let i = line::line_of(lines, l, b);
+    if i < l {
+        fill(i, b, true, block, lines, bytes);
+        return Spot {
+            line: i,
+            shape,
+            copies: none,
+        };
+    }
+    let spot = place(shape, lines, bytes, memory);
+    let p = spot.line;
+    if l <= p {
+        return Spot {
+            line: l,
+            shape,
+            copies: none,
+        };
+    }
+    fill(p, b, true, block, lines, bytes);
+    spot
 }
 
 // Changed lines to memory, lowest line first, and marked clean, in rows that are of L lines; the sums of these copies.

@@ -19,7 +19,7 @@ use Rattle.tracker.specs.Answer.{no}
 use Rattle.script.specs.declared.Command.{Command}
 use Rattle.script.specs.declared.Command.the-variants as command
 use Rattle.script.specs.Script.{news, asks}
-use Rattle.geometry.specs.TagMemory.{inLimits}
+use Rattle.geometry.specs.TagMemory.{inLimitsOf}
 use Rattle.rules.specs.State.{State, lengthsRight, zeroState}
 use Rattle.rules.specs.Whole.{limits, whole}
 use Rattle.rules.specs.Calls.{Out, refused, fresh}
@@ -104,7 +104,7 @@ module _ (s : State) (bytes memory : List ℕ) where
 
 module _ (bytes memory : List ℕ) where
   pub refused-of : (c : ℕ) {o : Out} → o ≡ fresh 0 0 0 bytes memory → (record { said = no c; state = o .state; bytes = o .bytes; memory = o .memory; transfers = o .transfers }) ≡ refused c zeroState bytes memory
-  unfolding fresh limits inLimits both refusal unless
+  unfolding fresh limits inLimitsOf both refusal unless
   refused-of c e = rw e refl
 
   pub begins-large : (n l t : ℕ) → replayLeaves < n → begins (news n l t) bytes memory ≡ refused 1 zeroState bytes memory

@@ -84,7 +84,7 @@ module _ (n c t b : ℕ) where
   group-small g e =
       let y = is-reached (groups n) g e in
       let w = isRun-within c (y .0 .run) in
-      let m = groups-most n 262144 (inLimits-most n (y .0 .limits)) in
+      let m = groups-most n 262144 (inLimits-most 1 n (y .0 .limits)) in
       let l = y .1 in
       (w .0, w .1, omega arith)
 
@@ -92,7 +92,7 @@ module _ (n c t b : ℕ) where
   run-small r e =
       let y = is-reached (runs n c) r e in
       let w = isRun-within c (y .0 .run) in
-      let h = inLimits-most n (y .0 .limits) in
+      let h = inLimits-most 1 n (y .0 .limits) in
       let m = groups-most n 262144 h in
       let k = runs-most n c (w .0) in
       let l = y .1 in

@@ -9,7 +9,7 @@ use Rattle.laws.specs.Refusal.{refusal, unless}
 use Rattle.laws.specs.Bytes.{part, splice, fits, putW, value, bytes, numberAt}
 use Rattle.laws.specs.Scan.{all}
 use Rattle.laws.specs.Bits.{bitOf, withBit}
-use Rattle.geometry.specs.TagMemory.{groups, inLimits, leafOf, byteOf}
+use Rattle.geometry.specs.TagMemory.{groups, inLimitsOf, leafOf, byteOf}
 use Rattle.block.specs.Block.{bitAt, putBit}
 use Rattle.prediction.specs.Runs.{isRun, runOf, runs, bitsLength, runBit, putRunBit, anyIn}
 use Rattle.prediction.specs.Calls.{Lent, lent, refused, fresh, groupRead, read, marked, write, synchronise}
@@ -71,7 +71,7 @@ pub record Worked : Type 0 where
   pub tagged-bit : runBit (after 1 32 tagged (synchronises 0 ∷ []) .bits) 0 ≡ 1
 
 pub worked : Worked
-unfolding told after fresh read groupRead write marked synchronise refusal unless both either implies isRun runOf runs bitsLength runBit putRunBit anyIn all groups inLimits leafOf byteOf bitAt putBit bitOf withBit putW fits splice part bytes value numberAt
+unfolding told after fresh read groupRead write marked synchronise refusal unless both either implies isRun runOf runs bitsLength runBit putRunBit anyIn all groups inLimitsOf leafOf byteOf bitAt putBit bitOf withBit putW fits splice part bytes value numberAt
 worked = record {
   a-run = refl;
   fresh-bits = refl;

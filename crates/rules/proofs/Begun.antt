@@ -3,26 +3,27 @@ use mathlib.Core.Path.{_≡_, refl, sym, ap, _∙_}
 use mathlib.Core.Bool.{true, false}
 use mathlib.Core.List.{List}
 use mathlib.Core.Logic.{⊎-elim}
-use Prim.Native.Nat.{ℕ, _-_, _<_}
+use Prim.Native.Nat.{ℕ, suc, _-_, _<_}
 use native.Mathlib.Omega.{arith}
 use lib.ListN.{replicate}
 use Rattle.laws.proofs.Writes.{getD-replicate}
 use Rattle.laws.proofs.Choice.{not-both-ways}
 use Rattle.laws.specs.Refusal.{refusal, unless}
 use Rattle.laws.proofs.Refusal.{refusal-hold, refused-or-not, unless-0, unless-no, unless-by}
-use Rattle.memory.specs.True.{isTrue, clearedMap}
+use Rattle.memory.specs.True.{isTrueOf, clearedOf}
 use Rattle.tracker.specs.Answer.{ok, no}
-use Rattle.geometry.specs.Shape.{shapeOf}
+use Rattle.geometry.specs.Shape.{shapeOf, topOf}
 use Rattle.geometry.specs.TagMemory.{mostTrackers, mostLines}
 use Rattle.tracker.specs.declared.Tracker.{Tracker}
 use Rattle.tracker.specs.Tracker.{idle, isIdle, holdsAt}
+use Rattle.tracker.proofs.Phases.{loose-asks}
 use Rattle.line.specs.Word.{used}
 use Rattle.rules.specs.State.{State, trackerAt, begun, zeroState, lengthsRight}
 use Rattle.rules.specs.Whole.{limits, phaseWhole, whole}
 use Rattle.rules.specs.Calls.{Out, accepted, refused, freshTests, fresh, openTests, opened}
 use Rattle.line.proofs.Words.{free-used}
 use Rattle.rules.proofs.Lined.{at, Has}
-use Rattle.rules.proofs.Whole.{heldOf, heldOf-no, Whole, facts-whole, t-most, l-least, l-most}
+use Rattle.rules.proofs.Whole.{Whole, facts-whole, t-most, l-least, l-most}
 
 module _ (n t l : ℕ) (lim : limits (shapeOf n t l) ≡ true) where
   free-line : (i : ℕ) → used (at (replicate mostLines 0) i) ≡ false
@@ -34,8 +35,8 @@ module _ (n t l : ℕ) (lim : limits (shapeOf n t l) ≡ true) where
   idle-tracker : (x : ℕ) → trackerAt (replicate mostTrackers idle) x ≡ idle
   idle-tracker x = getD-replicate mostTrackers x idle
 
-  no-hold : (x : ℕ) → heldOf n (replicate mostTrackers idle) x ≡ 0
-  no-hold x = heldOf-no n (replicate mostTrackers idle) x (ap (λ (u : Tracker). holdsAt (u .phase)) (idle-tracker x))
+  holds-none : (x : ℕ) → holdsAt (trackerAt (replicate mostTrackers idle) x .phase) ≡ false
+  holds-none x = ap (λ (u : Tracker). holdsAt (u .phase)) (idle-tracker x)
 
   pub begun-whole : whole (begun (shapeOf n t l)) ≡ true
   begun-whole = facts-whole (begun (shapeOf n t l)) (record {
@@ -49,19 +50,20 @@ module _ (n t l : ℕ) (lim : limits (shapeOf n t l) ≡ true) where
         one = λ i j b h h'. absurd (none i b h);
       };
       named = λ i b h p. absurd (none i b h);
-      in-line = λ x k m q kl e. absurd (let z = no-hold x in omega arith);
+      marked = λ x e i xl el k h. absurd (none i _ h);
+      in-line = λ x e xl el k. absurd (not-both-ways k (loose-asks (trackerAt (replicate mostTrackers idle) x .phase) (suc e) (holds-none x)));
     };
     tracked = record {
       long = t-most (shapeOf n t l) lim;
       above = λ x q. ap isIdle (idle-tracker x);
       group-lt = λ x e. absurd (not-both-ways (ap isIdle (idle-tracker x)) e);
-      phase-ok = λ x. ap (λ (u : Tracker). phaseWhole (u .write) (u .bottom) (u .phase)) (idle-tracker x);
+      phase-ok = λ x. ap (λ (u : Tracker). phaseWhole (topOf (shapeOf n t l)) (u .write) (u .bottom) (u .phase)) (idle-tracker x);
     };
   })
 
 -- "refused, they return one that is zero throughout", and that is broken
 pub zero-broken : whole zeroState ≡ false
-unfolding whole Rattle.rules.specs.Whole.limits Rattle.geometry.specs.TagMemory.inLimits Rattle.laws.specs.Choice.both
+unfolding whole Rattle.rules.specs.Whole.limits Rattle.geometry.specs.TagMemory.inLimitsOf Rattle.laws.specs.Choice.both
 zero-broken = refl
 
 -- a call that said ok was not refused
@@ -82,7 +84,7 @@ module _ (n t l : ℕ) (bytes memory : List ℕ) where
   open-passed e = passed _ _ _ _ _ e
 
   module _ (free : refusal (freshTests (shapeOf n t l) bytes memory) ≡ 0) where
-    pub fresh-accepted : fresh n t l bytes memory ≡ accepted (begun (shapeOf n t l)) bytes (clearedMap n memory)
+    pub fresh-accepted : fresh n t l bytes memory ≡ accepted (begun (shapeOf n t l)) bytes (clearedOf (topOf (shapeOf n t l)) n memory)
     unfolding fresh
     fresh-accepted = unless-0 _ _ free
 
@@ -94,7 +96,7 @@ module _ (n t l : ℕ) (bytes memory : List ℕ) where
     unfolding opened
     open-accepted = unless-0 _ _ free
 
-    pub open-free : (limits (shapeOf n t l) ≡ true) × (lengthsRight (shapeOf n t l) bytes memory ≡ true) × (isTrue n memory ≡ true)
+    pub open-free : (limits (shapeOf n t l) ≡ true) × (lengthsRight (shapeOf n t l) bytes memory ≡ true) × (isTrueOf (topOf (shapeOf n t l)) n memory ≡ true)
     open-free = let h = refusal-hold (openTests (shapeOf n t l) bytes memory) refl free in (h .0, h .1 .0, h .1 .1 .0)
 
   pub fresh-refused : 0 < refusal (freshTests (shapeOf n t l) bytes memory) → fresh n t l bytes memory ≡ refused (refusal (freshTests (shapeOf n t l) bytes memory)) zeroState bytes memory

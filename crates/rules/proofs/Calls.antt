@@ -5,31 +5,32 @@ use mathlib.Core.List.{List}
 use mathlib.Core.Logic.{_⊎_, ⊎-elim}
 use Prim.Native.Nat.{ℕ, zero, suc, _-_, _*_, _<_, _≤_}
 use native.Mathlib.Omega.{arith}
+use lib.Dec.{ltb}
 use lib.ListN.{length, set, length-set}
 use borrow.Author.Tests.{lt-ltb, ltb-true, le-leb, eqb-true, eq-eqb, not-true}
-use native.Mathlib.Decide.{ℕ-discrete}
 use Rattle.tracker.proofs.Phases.{idle-loose}
 use Rattle.geometry.specs.declared.Shape.{Shape}
-use Rattle.geometry.specs.Shape.{atHand}
-use Rattle.geometry.specs.TagMemory.{groups, memoryLength}
+use Rattle.geometry.specs.Shape.{topOf, atHand}
+use Rattle.geometry.specs.TagMemory.{groups, lengthOf}
+use Rattle.geometry.proofs.Shapes.{below-hand}
 use Rattle.laws.proofs.Choice.{true-or-false, both-left, both-right, both-true}
-use Rattle.laws.proofs.Splice.{lt-or-ge}
-use Rattle.laws.proofs.Scan.{all-at}
 use Rattle.laws.specs.Refusal.{refusal, unless}
 use Rattle.laws.proofs.Refusal.{refusal-0, refusal-hold, refusal-past, refused-or-not, unless-0, unless-no}
 use Rattle.tracker.specs.declared.Access.{Access}
 use Rattle.tracker.specs.Tracker.{isIdle, holdsAt, issued, firstPhase}
-use Rattle.line.specs.Word.{blockOf, holder, cleaned, holders}
+use Rattle.line.specs.Word.{cleaned, holders}
 use Rattle.rules.specs.State.{State, Rows, trackerAt, lengthsRight}
 use Rattle.rules.specs.Whole.{phaseWhole, whole}
 use Rattle.rules.specs.Place.{rowsFit, drained}
 use Rattle.rules.specs.Step.{Turned, fit, byPhase, turnOf}
 use Rattle.rules.specs.Calls.{Out, refused, accepted, withTracker, stateTests, meetsNone, issueTests, issueNo, issue, stepped, stepTests, stepNo, step, allIdle, drainTests, drainNo, drainsTo, drain}
 use Rattle.line.proofs.Words.{blockOf-cleaned, holder-cleaned, used-cleaned}
-use Rattle.rules.proofs.Lined.{at, loose-lined, same-holds}
-use Rattle.rules.proofs.Whole.{heldOf, heldLines, LinedBy, heldOf-no, Whole, whole-facts, facts-whole, inLimits-of, limits-hand, t-most, l-least}
-use Rattle.rules.proofs.Placed.{written-length, held-used}
-use Rattle.rules.proofs.Keeps.{isNo, Keeps, Situation, keeps-byPhase, tracked-set, heldOf-other, tracker-same}
+use Rattle.rules.proofs.Lined.{at, same-lined}
+use Rattle.rules.proofs.Whole.{LinedBy, Whole, whole-facts, facts-whole, hand-whole, inLimits-of, t-most}
+use Rattle.rules.proofs.Placed.{written-length}
+use Rattle.rules.proofs.Trackers.{tracked-set, quiet}
+use Rattle.rules.proofs.Situation.{Situation, level-lt, lines-enough}
+use Rattle.rules.proofs.Keeps.{isNo, Keeps, keeps-byPhase}
 use Rattle.rules.proofs.Ways.{turn-is}
 
 -- the lengths, as facts
@@ -38,18 +39,18 @@ module _ (shape : Shape) (bytes memory : List ℕ) where
   unfolding lengthsRight
   bytes-right h = eqb-true _ _ (both-left _ _ h)
 
-  pub memory-right : lengthsRight shape bytes memory ≡ true → length memory ≡ memoryLength (shape .n)
+  pub memory-right : lengthsRight shape bytes memory ≡ true → length memory ≡ lengthOf (topOf shape) (shape .n)
   unfolding lengthsRight
   memory-right h = eqb-true _ _ (both-right _ _ h)
 
-  pub lengths-right : length bytes ≡ 64 * shape .l → length memory ≡ memoryLength (shape .n) → lengthsRight shape bytes memory ≡ true
+  pub lengths-right : length bytes ≡ 64 * shape .l → length memory ≡ lengthOf (topOf shape) (shape .n) → lengthsRight shape bytes memory ≡ true
   unfolding lengthsRight
   lengths-right p q = both-true _ _ (eq-eqb _ _ p) (eq-eqb _ _ q)
 
   -- nor do the lengths ask for the hand
   pub lengths-hand : (h : ℕ) → lengthsRight (atHand shape h) bytes memory ≡ lengthsRight shape bytes memory
   unfolding lengthsRight
-  lengths-hand h = refl
+  lengths-hand h = rw (below-hand shape h)
 
 -- what a call leaves: a whole state, of the same shape but for the hand, and lent bytes of the right lengths
 pub record Sound (shape : Shape) (o : Out) : Type 0 where
@@ -108,7 +109,7 @@ module _ (s : State) (bytes memory : List ℕ) (w : whole s ≡ true) (len : len
       turn-fit =
           let x1 : x < holders = omega (arith, t-most (s .shape) (f .limits-ok)) in
           both-true _ _ (both-true _ _ (inLimits-of (s .shape) (f .limits-ok)) (le-leb _ _ (f .lined .apart .long)))
-          (both-true _ _ (lt-ltb _ _ (f .tracked .group-lt x busy)) (lt-ltb _ _ x1))
+          (both-true _ _ (both-true _ _ (lt-ltb _ _ (f .tracked .group-lt x busy)) (lt-ltb _ _ (level-lt situation))) (lt-ltb _ _ x1))
 
       -- the core's step is the rule of the tracker's phase
       pub turn-byPhase : turnOf (s .shape) x (trackerAt (s .trackers) x) rows ≡ byPhase (s .shape) x (trackerAt (s .trackers) x) rows (trackerAt (s .trackers) x .phase)
@@ -125,10 +126,10 @@ module _ (s : State) (bytes memory : List ℕ) (w : whole s ≡ true) (len : len
       pub step-sound : Sound (s .shape) (step s bytes memory x)
       step-sound = rw step-is (record {
         is-shape = k .shaped .is-shape;
-        is-whole = subst (λ (z : Shape). whole (state z) ≡ true) (sym (k .shaped .is-shape)) (facts-whole (state (atHand (s .shape) (o .shape .hand)))
-            (record { limits-ok = limits-hand (s .shape) (o .shape .hand) ∙ f .limits-ok; hand-lt = k .shaped .hand-lt; lined = k .lined; tracked = k .tracked }));
+        is-whole = subst (λ (z : Shape). whole (state z) ≡ true) (sym (k .shaped .is-shape))
+            (facts-whole _ (hand-whole (s .shape) (o .shape .hand) (o .rows .lines) _ (f .limits-ok) (k .shaped .hand-lt) (k .lined) (k .tracked)));
         right = subst (λ (z : Shape). lengthsRight z (o .rows .bytes) (o .rows .memory) ≡ true) (sym (k .shaped .is-shape))
-            (lengths-hand (s .shape) _ _ (o .shape .hand) ∙ lengths-right (s .shape) _ _ (k .bytes-long ∙ bytes-right (s .shape) bytes memory len) (k .memory-long ∙ memory-right (s .shape) bytes memory len));
+            (lengths-hand (s .shape) _ _ (o .shape .hand) ∙ lengths-right (s .shape) _ _ (k .long .bytes-long ∙ bytes-right (s .shape) bytes memory len) (k .long .memory-long ∙ memory-right (s .shape) bytes memory len));
       })
         where
           o : Turned
@@ -175,20 +176,15 @@ module _ (s : State) (bytes memory : List ℕ) (w : whole s ≡ true) (len : len
       first-free true = refl
       first-free false = refl
 
-      first-ok : (b : Bool) → phaseWhole (a .write) b (firstPhase b) ≡ true
-      first-ok true = refl
+      first-ok : (b : Bool) → phaseWhole (topOf (s .shape)) (a .write) b (firstPhase b) ≡ true
+      first-ok true = both-true true (ltb 0 (topOf (s .shape))) refl (lt-ltb 0 (topOf (s .shape)) (omega arith))
       first-ok false = refl
 
       xlong : x < length (s .trackers)
       xlong = omega (arith, f .tracked .long, issue-free .0)
 
       issue-lined : LinedBy (s .shape) (set (s .trackers) x (issued a)) (s .lines)
-      issue-lined = same-holds (f .lined) (λ y k. by y (ℕ-discrete y x))
-        where
-          by : (y : ℕ) → Dec (y ≡ x) → heldOf (s .shape .n) (set (s .trackers) x (issued a)) y ≡ heldOf (s .shape .n) (s .trackers) y
-          by y (yes q) = rw q (heldOf-no (s .shape .n) _ x (rw (tracker-same (s .trackers) x (issued a) xlong) (first-free (a .bottom)))
-              ∙ sym (heldOf-no (s .shape .n) (s .trackers) x (idle-loose (trackerAt (s .trackers) x .phase) (issue-free .2))))
-          by y (no q) = heldOf-other (s .shape .n) (s .trackers) x y (issued a) q
+      issue-lined = quiet (s .shape) (s .trackers) x (issued a) xlong (idle-loose (trackerAt (s .trackers) x .phase) (issue-free .2)) (first-free (a .bottom)) (f .lined)
 
       issue-sound : Sound (s .shape) (accepted (withTracker s x (issued a)) bytes memory)
       issue-sound = record {
@@ -197,7 +193,7 @@ module _ (s : State) (bytes memory : List ℕ) (w : whole s ≡ true) (len : len
           limits-ok = f .limits-ok;
           hand-lt = f .hand-lt;
           lined = issue-lined;
-          tracked = tracked-set (s .shape .n) (s .shape .t) (s .trackers) x (issued a) (f .tracked) (issue-free .0) (λ _. issue-free .1) (first-ok (a .bottom));
+          tracked = tracked-set (topOf (s .shape)) (s .shape .n) (s .shape .t) (s .trackers) x (issued a) (f .tracked) (issue-free .0) (λ _. issue-free .1) (first-ok (a .bottom));
         });
         right = len;
       }
@@ -206,29 +202,12 @@ module _ (s : State) (bytes memory : List ℕ) (w : whole s ≡ true) (len : len
     issue-kept = ⊎-elim (λ e. rw (issue-accepted e) (issue-sound e)) (λ h. rw (issue-refused h) (refused-sound _))
         (refused-or-not (refusal (issueTests (s .shape) x a (s .trackers))))
 
-  few : s .shape .t * heldLines < s .shape .l
-  few = omega (arith, l-least (s .shape) (f .limits-ok))
-
   fit-of : (lines : List ℕ) → s .shape .l ≤ length lines → rowsFit (s .shape .l) lines bytes ≡ true
   unfolding rowsFit
   fit-of lines q = both-true _ _ (le-leb _ _ q) (eq-eqb _ _ (bytes-right (s .shape) bytes memory len))
 
   -- draining: the first i lines
   module _ (idle-all : allIdle s ≡ true) where
-    none-held : (x : ℕ) → heldOf (s .shape .n) (s .trackers) x ≡ 0
-    unfolding allIdle
-    none-held x = heldOf-no (s .shape .n) (s .trackers) x (idle-loose (trackerAt (s .trackers) x .phase)
-        (⊎-elim (λ q. all-at (λ y. isIdle (trackerAt (s .trackers) y)) (s .shape .t) idle-all x q) (λ q. f .tracked .above x q) (lt-or-ge x (s .shape .t))))
-
-    -- nobody holds a line
-    no-holder : {lines : List ℕ} → LinedBy (s .shape) (s .trackers) lines → (i : ℕ) → holder (at lines i) ≡ 0
-    no-holder {lines} v i = go (ℕ-discrete (holder (at lines i)) 0)
-      where
-        go : Dec (holder (at lines i) ≡ 0) → holder (at lines i) ≡ 0
-        go (yes e) = e
-        go (no e) = absurd (let r = v .named i (blockOf (at lines i)) (record { is-used = held-used (at lines i) (omega arith); is-block = refl }) (omega arith) in
-            let z = none-held (holder (at lines i) - 1) in let y = r .1 .is-held in omega arith)
-
     pub record Drains (d : Rows) : Type 0 where
       pub lined : LinedBy (s .shape) (s .trackers) (d .lines)
       pub bytes-is : d .bytes ≡ bytes
@@ -241,15 +220,12 @@ module _ (s : State) (bytes memory : List ℕ) (w : whole s ≡ true) (len : len
     drains (suc i) q =
         let d : Drains (drained i rows) = drains i (omega arith) in
         let c = at (drained i rows .lines) i in
-        let bl : blockOf (cleaned c) ≡ blockOf c = blockOf-cleaned c in
         let fits : rowsFit (s .shape .l) (drained i rows .lines) (drained i rows .bytes) ≡ true = subst (λ (y : List ℕ). rowsFit (s .shape .l) (drained i rows .lines) y ≡ true) (sym (d .bytes-is)) (fit-of (drained i rows .lines) (d .lined .apart .long)) in
         record {
-          lined = loose-lined (d .lined) i (cleaned c) (omega arith) (no-holder (d .lined) i) (holder-cleaned c ∙ no-holder (d .lined) i)
-              (λ u. rw bl (d .lined .apart .exists i (blockOf c) (record { is-used = sym (used-cleaned c) ∙ u; is-block = refl })))
-              (λ u j n h. n (d .lined .apart .one j i (blockOf c) (rw bl at h) (record { is-used = sym (used-cleaned c) ∙ u; is-block = refl })));
+          lined = same-lined (d .lined) i (cleaned c) (omega arith) (used-cleaned c) (blockOf-cleaned c) (holder-cleaned c);
           bytes-is = d .bytes-is;
           lines-long = simp length-set (d .lines-long);
-          memory-long = written-length (s .shape) (drained i rows) (d .lined) few fits i (omega arith) ∙ d .memory-long;
+          memory-long = written-length (s .shape) (drained i rows) (d .lined) (lines-enough (s .shape) (f .limits-ok)) fits i (omega arith) ∙ d .memory-long;
         }
 
     pub drain-is : drain s bytes memory ≡ drainsTo s rows

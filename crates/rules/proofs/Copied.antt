@@ -1,5 +1,5 @@
 -- What each rule of a step does with its copies: they are added to the sums, they stay within the table, and their write-backs are what changes the memory.
-use mathlib.Core.Path.{_≡_, refl, sym, ap, _∙_}
+use mathlib.Core.Path.{_≡_, refl, sym, ap, _∙_, subst}
 use mathlib.Core.Bool.{Bool, true, false}
 use mathlib.Core.List.{List, [], _∷_, _++_}
 use mathlib.Core.Logic.{_⊎_, inl, inr}
@@ -9,35 +9,36 @@ use native.Mathlib.Decide.{ℕ-discrete}
 use lib.Dec.{eqb, ltb}
 use lib.ListN.{length, getD, length-append}
 use lib.Seq.{getD-set-other}
-use borrow.Author.Tests.{lt-ltb, le-ltb, eq-eqb, ne-eqb}
-use Rattle.laws.specs.Choice.{pick, both}
+use borrow.Author.Tests.{lt-ltb, le-ltb, eq-eqb, ne-eqb, eqb-true, eqb-false}
+use Rattle.laws.specs.Choice.{pick, both, no as negated}
 use Rattle.laws.specs.Bytes.{putW}
 use Rattle.laws.proofs.Choice.{not-both-ways, true-or-false, pick-by, both-true, both-false-left, both-false-right}
 use Rattle.laws.proofs.Splice.{lt-or-ge}
 use Rattle.geometry.specs.declared.Shape.{Shape}
-use Rattle.geometry.specs.TagMemory.{leafOf, blockPlace}
+use Rattle.geometry.specs.Shape.{belowTop, topOf}
+use Rattle.geometry.specs.TagMemory.{leafOf, blockOver, blockPlace}
 use Rattle.block.specs.Block.{allZero}
 use Rattle.tracker.specs.declared.Phase.{Phase}
-use Rattle.tracker.specs.declared.Phase.the-variants.{Idle, Probe, Map, Leaf, Set, Clear}
+use Rattle.tracker.specs.declared.Phase.the-variants.{Idle, Probe, Top, Under, Set, Clear}
 use Rattle.tracker.specs.declared.Transfers.{Transfers}
 use Rattle.tracker.specs.declared.Tracker.{Tracker}
 use Rattle.tracker.specs.Transfers.{none, plus}
-use Rattle.tracker.specs.Tracker.{isIdle, isIdleAt, holdsAt}
-use Rattle.tracker.specs.Answer.{Said}
-use Rattle.line.specs.Word.{blockOf, changed, held}
+use Rattle.tracker.specs.Tracker.{isIdle, isIdleAt, levelOf, afterProbe, finishAt}
+use Rattle.tracker.specs.Answer.{Said, done}
+use Rattle.tracker.proofs.Phases.{asks-is}
+use Rattle.line.specs.Word.{blockOf, changed}
 use Rattle.line.specs.Find.{lineOf}
 use Rattle.rules.specs.State.{Rows}
-use Rattle.rules.specs.Whole.{mapBlock}
 use Rattle.rules.specs.Copies.{Copy, fetch, back, fetches, backs, tally}
-use Rattle.rules.specs.Place.{lineBytes, placeLine, writtenBack, backOf, placeMemory, placeCopies, Brought, bringIn, bringCopies, drained, drainCopies}
-use Rattle.rules.specs.Step.{Turned, ends, goes, waits, bitIn, groupIn, probe, holdsMap, onMap, map, leafRead, putIn, writeUnder1, writeUnder0, leafWrite, finish, holding, inLine, byPhase}
-use Rattle.rules.specs.Copied.{createCopies, copiesAt, backed, mostAt}
+use Rattle.rules.specs.Place.{lineBytes, placeLine, writtenBack, backOf, placeMemory, placeCopies, Brought, bringIn, create, bringCopies, createCopies, drained, drainCopies}
+use Rattle.rules.specs.Step.{Turned, ends, goes, turnsOf, asksZero, ownLine, groupIn, bitIn, probe, descend, top, putIn, writeUnder1, zeros, newLeaf, underBit, under, dropEmpty, finishBelow, finish, byPhase}
+use Rattle.rules.specs.Copied.{copiesAt, backed, mostAt}
 use Rattle.rules.proofs.Words.{changed-used}
 use Rattle.rules.proofs.Copies.{fetches-++, backs-++, tally-++}
 use Rattle.rules.proofs.Lined.{at, Apart, lineOf-is}
-use Rattle.rules.proofs.Placed.{place-loose, place-memory, bring-found, bring-placed}
-use Rattle.rules.proofs.Ways.{map-wait, map-on, bytesWith, leafRead-is, write0-line, write0-place, write0-same, inLine-is}
-use Rattle.rules.proofs.Keeps.{Situation, few, map-brings, leaf-brings, j-lt}
+use Rattle.rules.proofs.Placed.{place-loose, place-memory, bring-found, bring-placed, create-found, create-placed}
+use Rattle.rules.proofs.Ways.{leaf-over, topHeld, top-wait, top-on, leafRead-is, write0-same, write0-create, leafWrite-0, leafWrite-1, under-read, under-write, under-map, bytesWith, putRows, changesAbove}
+use Rattle.rules.proofs.Situation.{Situation, few, level-lt, own-lt}
 
 -- every copy is a fetch or a write-back
 pub length-copies : (cs : List Copy) → length (fetches cs) + length (backs cs) ≡ length cs
@@ -55,14 +56,6 @@ pub backed-++ : (l : ℕ) (r : Rows) (m : List ℕ) (xs bs : List ℕ) → backe
 unfolding backed
 backed-++ l r m [] bs = refl
 backed-++ l r m (b ∷ xs) bs = backed-++ l r _ xs bs
-
-backed-none : (l : ℕ) (r : Rows) (m : List ℕ) → backed l r m [] ≡ m
-unfolding backed
-backed-none l r m = refl
-
-backs-none : backs [] ≡ []
-unfolding backs
-backs-none = refl
 
 backs-fetch : (cs : List Copy) (b : ℕ) → backs (cs ++ fetch b ∷ []) ≡ backs cs
 unfolding backs
@@ -91,27 +84,31 @@ abbrev pub sumsOf : Turned → Transfers
 sumsOf o = pick (isIdle (o .tracker)) (o .transfers) (o .tracker .transfers)
 
 -- what a step of u with the copies cs does with them; `before` are the copies that were made for its access before
-pub record Makes (l : ℕ) (u : Tracker) (r : Rows) (before cs : List Copy) (o : Turned) : Type 0 where
+pub record Makes (shape : Shape) (u : Tracker) (r : Rows) (before cs : List Copy) (o : Turned) : Type 0 where
   pub sums-are : sumsOf o ≡ tally (before ++ cs)
-  pub within : mostAt (u .phase) + length cs ≤ mostAt (o .tracker .phase)
-  pub backed-is : o .rows .memory ≡ backed l r (r .memory) (backs cs)
+  pub within : mostAt (topOf shape) (u .phase) + length cs ≤ mostAt (topOf shape) (o .tracker .phase)
+  pub backed-is : o .rows .memory ≡ backed (shape .l) r (r .memory) (backs cs)
 
 append-none : {A : Type 0} (xs : List A) → xs ++ [] ≡ xs
 append-none [] = refl
 append-none (x ∷ xs) = ap (λ (z : List _). x ∷ z) (append-none xs)
 
-module _ (l : ℕ) (u : Tracker) (r : Rows) (before : List Copy) (e : u .transfers ≡ tally before) where
-  module _ (cs : List Copy) (more : Transfers) (q : more ≡ tally cs) where
-    added : plus (u .transfers) more ≡ tally (before ++ cs)
-    added = ap (λ (z : Transfers). plus z more) e ∙ ap (plus (tally before)) q ∙ sym (tally-++ before cs)
+probe-busy : (top d : ℕ) → isIdleAt (afterProbe top d) ≡ false
+probe-busy top d = pick-by (λ (p : Phase). isIdleAt p ≡ false) (ltb (suc d) top) (λ _. refl) (λ _. refl)
 
-    makes-goes : {shape : Shape} {r' : Rows} (p : Phase) → isIdleAt p ≡ false → mostAt (u .phase) + length cs ≤ mostAt p → r' .memory ≡ backed l r (r .memory) (backs cs)
-        → Makes l u r before cs (goes u p more shape r')
-    makes-goes p i w m = record { sums-are = rw i added; within = w; backed-is = m }
+-- the copies of a step under a bit, which is in the line of its block of level d + 1
+module _ (shape : Shape) (u : Tracker) (r : Rows) where
+  abbrev pub bitIs0 : ℕ → Bool
+  bitIs0 d = eqb (bitIn (r .bytes) (ownLine shape u r (suc d)) d (u .group)) 0
 
-    makes-ends : {a : Said} {shape : Shape} {r' : Rows} → mostAt (u .phase) + length cs ≤ mostAt Idle → r' .memory ≡ backed l r (r .memory) (backs cs)
-        → Makes l u r before cs (ends a shape u more r')
-    makes-ends w m = record { sums-are = added; within = w; backed-is = m }
+  pub copies-same : both (u .write) (bitIs0 0) ≡ true → u .value ≡ 0 → copiesAt shape u r (Under 0) ≡ []
+  copies-same h z = rw (h, both-true (eqb 0 0) _ refl (eq-eqb _ _ z)) refl
+
+  pub copies-create : (d : ℕ) → both (u .write) (bitIs0 d) ≡ true → both (eqb d 0) (eqb (u .value) 0) ≡ false → copiesAt shape u r (Under d) ≡ createCopies shape (blockOver d (shape .n) (u .group)) r
+  copies-create d h z = rw (h, z) refl
+
+  pub copies-bring : (d : ℕ) → both (u .write) (bitIs0 d) ≡ false → copiesAt shape u r (Under d) ≡ bringCopies shape (blockOver d (shape .n) (u .group)) r
+  copies-bring d h = rw h refl
 
 module _ (sit : Situation) where
   abbrev shape : Shape
@@ -129,6 +126,16 @@ module _ (sit : Situation) where
   abbrev p : ℕ
   p = placeLine shape (r .lines) (r .bytes)
 
+  -- the block of each level, and its line
+  abbrev block : ℕ → ℕ
+  block d = blockOver d (shape .n) (u .group)
+
+  abbrev own : ℕ → ℕ
+  own = ownLine shape u r
+
+  abbrev most : Phase → ℕ
+  most = mostAt (topOf shape)
+
   pub p-lt : p < l
   p-lt = place-loose shape r (sit .lined) (few sit) (sit .rows-fit) .0
 
@@ -143,7 +150,17 @@ module _ (sit : Situation) where
   place-backed = place-memory shape r (sit .lined) (few sit) (sit .rows-fit) ∙ written-is r (sit .lined .apart) p (r .memory)
       ∙ ap (λ (cs : List Copy). backed l r (r .memory) (backs cs)) (sym place-copies)
 
-  -- bringing in
+  none-backed : r .memory ≡ backed l r (r .memory) (backs [])
+  unfolding backed backs
+  none-backed = refl
+
+  -- what bringing in or creating does with its copies, at most k
+  pub record Carries (k : ℕ) (cs : List Copy) (o : Brought) : Type 0 where
+    pub line-lt : o .line < l
+    sums : o .copies ≡ tally cs
+    at-most : length cs ≤ k
+    memory : o .rows .memory ≡ backed l r (r .memory) (backs cs)
+
   module _ (b : ℕ) where
     pub copies-found : lineOf (r .lines) l b < l → bringCopies shape b r ≡ []
     unfolding bringCopies
@@ -153,140 +170,180 @@ module _ (sit : Situation) where
     unfolding bringCopies
     copies-placed q = rw (le-ltb _ _ q, lt-ltb _ _ p-lt)
 
-    record Carries : Type 0 where
-      sums : bringIn shape b r .copies ≡ tally (bringCopies shape b r)
-      two : length (bringCopies shape b r) ≤ 2
-      memory : bringIn shape b r .rows .memory ≡ backed l r (r .memory) (backs (bringCopies shape b r))
+    creates-none : lineOf (r .lines) l b < l → createCopies shape b r ≡ []
+    unfolding createCopies
+    creates-none q = rw (lt-ltb _ _ q)
 
-    carries : Carries
-    carries = go (lt-or-ge (lineOf (r .lines) l b) l)
+    creates-placed : l ≤ lineOf (r .lines) l b → createCopies shape b r ≡ placeCopies shape r
+    unfolding createCopies
+    creates-placed q = rw (le-ltb _ _ q)
+
+    pub brought : Carries 2 (bringCopies shape b r) (bringIn shape b r)
+    brought = go (lt-or-ge (lineOf (r .lines) l b) l)
       where
-        go : (lineOf (r .lines) l b < l) ⊎ (l ≤ lineOf (r .lines) l b) → Carries
-        go (inl q) = record {
-          sums = rw (bring-found shape b r q, copies-found q) (sym tally-none);
-          two = rw (copies-found q) (omega arith);
-          memory = rw (bring-found shape b r q, copies-found q, backs-none) (sym (backed-none l r (r .memory)));
-        }
-        go (inr q) = record {
-          sums = rw (bring-placed shape b r q p-lt, copies-placed q) refl;
-          two = rw (copies-placed q, length-append (placeCopies shape r) (fetch b ∷ [])) (omega (arith, place-one));
-          memory = rw (bring-placed shape b r q p-lt, copies-placed q, backs-fetch (placeCopies shape r) b) place-backed;
-        }
+        go : (lineOf (r .lines) l b < l) ⊎ (l ≤ lineOf (r .lines) l b) → Carries 2 (bringCopies shape b r) (bringIn shape b r)
+        go (inl q) = rw (bring-found shape b r q, copies-found q) (record { line-lt = q; sums = sym tally-none; at-most = omega arith; memory = none-backed })
+        go (inr q) = rw (bring-placed shape b r q p-lt, copies-placed q) (record {
+          line-lt = p-lt;
+          sums = refl;
+          at-most = rw (length-append (placeCopies shape r) (fetch b ∷ [])) (omega (arith, place-one));
+          memory = rw (backs-fetch (placeCopies shape r) b) place-backed;
+        })
+
+    pub created : (y : List ℕ) → Carries 1 (createCopies shape b r) (create shape b y r)
+    created y = go (lt-or-ge (lineOf (r .lines) l b) l)
+      where
+        go : (lineOf (r .lines) l b < l) ⊎ (l ≤ lineOf (r .lines) l b) → Carries 1 (createCopies shape b r) (create shape b y r)
+        go (inl q) = rw (create-found shape b y r q, creates-none q) (record { line-lt = q; sums = sym tally-none; at-most = omega arith; memory = none-backed })
+        go (inr q) = rw (create-placed shape b y r q p-lt, creates-placed q) (record { line-lt = p-lt; sums = refl; at-most = place-one; memory = place-backed })
+
+  -- under a bit, which is in the line of its block of level d + 1
+  pub under-lt : {d : ℕ} → u .phase ≡ Under d → d < topOf shape
+  under-lt ph = subst (λ (q : Phase). levelOf q < topOf shape) ph (level-lt sit)
+
+  pub line-above : {d : ℕ} → u .phase ≡ Under d → own (suc d) < l
+  line-above {d} ph = own-lt sit d (under-lt ph) (rw ph (asks-is (Under d) (suc d) refl (omega arith)))
+
+  pub carried : (d : ℕ) → Carries 2 (copiesAt shape u r (Under (suc d))) (underBit shape (suc d) u r)
+  unfolding underBit
+  carried d = go (true-or-false (both (u .write) (bitIs0 shape u r (suc d))))
+    where
+      go : (both (u .write) (bitIs0 shape u r (suc d)) ≡ true) ⊎ (both (u .write) (bitIs0 shape u r (suc d)) ≡ false) → Carries 2 (copiesAt shape u r (Under (suc d))) (underBit shape (suc d) u r)
+      go (inl h) =
+          let c = created (block (suc d)) zeros in
+          rw (copies-create shape u r (suc d) h (both-false-left _ _ (ne-eqb (suc d) 0 (λ z. omega arith))), h) (record { line-lt = c .line-lt; sums = c .sums; at-most = omega (arith, c .at-most); memory = c .memory })
+      go (inr h) = rw (copies-bring shape u r (suc d) h, h) (brought (block (suc d)))
 
   module _ (before : List Copy) (e : u .transfers ≡ tally before) where
     abbrev Does : List Copy → Turned → Type 0
-    Does cs o = Makes l u r before cs o
+    Does cs o = Makes shape u r before cs o
 
-    at-phase : (q : Phase) → u .phase ≡ q → (n k : ℕ) → mostAt q + n ≤ k → mostAt (u .phase) + n ≤ k
-    at-phase q ph n k w = rw ph w
+    added : (cs : List Copy) (more : Transfers) → more ≡ tally cs → plus (u .transfers) more ≡ tally (before ++ cs)
+    added cs more q = ap (λ (z : Transfers). plus z more) e ∙ ap (plus (tally before)) q ∙ sym (tally-++ before cs)
 
-    -- a step that copies nothing
-    nothing : r .memory ≡ backed l r (r .memory) (backs [])
-    unfolding backed backs
-    nothing = refl
+    -- a step that copies nothing: it leaves its tracker where it was, ends, or goes on
+    stays : {o : Turned} → o .tracker .phase ≡ u .phase → o .tracker .transfers ≡ u .transfers → o .rows .memory ≡ r .memory → Does [] o
+    stays ph tr m = record {
+      sums-are = rw (ap isIdleAt ph ∙ sit .busy) (tr ∙ e ∙ ap tally (sym (append-none before)));
+      within = omega (arith, ap most ph);
+      backed-is = m ∙ none-backed;
+    }
 
-    makes-probe : u .phase ≡ Probe → Does [] (probe shape u r)
+    ends-so : {a : Said} {r' : Rows} → most (u .phase) ≤ most Idle → r' .memory ≡ r .memory → Does [] (ends a shape u none r')
+    ends-so w m = record { sums-are = added [] none (sym tally-none); within = omega arith; backed-is = m ∙ none-backed }
+
+    goes-so : {r' : Rows} (q : Phase) → isIdleAt q ≡ false → most (u .phase) ≤ most q → r' .memory ≡ r .memory → Does [] (goes u q none shape r')
+    goes-so q i w m = record { sums-are = rw i (added [] none (sym tally-none)); within = omega arith; backed-is = m ∙ none-backed }
+
+    -- a step that brings in a block or creates one: it ends, or goes on
+    module _ {k : ℕ} {cs : List Copy} {b : Brought} (c : Carries k cs b) where
+      ends-with : {a : Said} {r' : Rows} → most (u .phase) + k ≤ most Idle → r' .memory ≡ b .rows .memory → Does cs (ends a (b .shape) u (b .copies) r')
+      ends-with w m = record { sums-are = added cs (b .copies) (c .sums); within = omega (arith, c .at-most); backed-is = m ∙ c .memory }
+
+      goes-with : {r' : Rows} (q : Phase) → isIdleAt q ≡ false → most (u .phase) + k ≤ most q → r' .memory ≡ b .rows .memory → Does cs (goes u q (b .copies) (b .shape) r')
+      goes-with q i w m = record { sums-are = rw i (added cs (b .copies) (c .sums)); within = omega (arith, c .at-most); backed-is = m ∙ c .memory }
+
+      makes-descend : (d : ℕ) → most (u .phase) + k ≤ most (Under d) → Does cs (descend (sit .x) own d u b)
+      unfolding descend
+      makes-descend d w = pick-by (Does cs) (both (eqb (bitIn (b .rows .bytes) (b .line) d (u .group)) 0) (asksZero u)) (λ _. ends-with (omega arith) refl) (λ _. goes-with (Under d) refl w refl)
+
+    makes-probe : (d : ℕ) → u .phase ≡ Probe d → Does [] (probe shape d u r)
     unfolding probe
-    makes-probe ph =
-        let i = lineOf (r .lines) l (leafOf (u .group)) in
-        let over : (a : Said) → Does [] (ends a shape u none r) = (λ a. makes-ends l u r before e [] none (sym tally-none) (at-phase Probe ph 0 (mostAt Idle) (omega arith)) nothing) in
-        let on : Does [] (goes u Map none shape r) = makes-goes l u r before e [] none (sym tally-none) Map refl (at-phase Probe ph 0 (mostAt Map) (omega arith)) nothing in
-        pick-by (Does []) (ltb i l)
-        (λ _. pick-by (Does []) (u .write) (λ _. pick-by (Does []) (eqb (groupIn (r .bytes) i (u .group)) (u .value)) (λ _. over _) (λ _. on)) (λ _. over _)) (λ _. on)
+    makes-probe zero ph =
+        let over : (a : Said) → Does [] (ends a shape u none r) = (λ a. ends-so (omega (arith, ap most ph)) refl) in
+        let on : Does [] (goes u (afterProbe (topOf shape) 0) none shape r) = goes-so (afterProbe (topOf shape) 0) (probe-busy (topOf shape) 0) (omega (arith, ap most ph)) refl in
+        pick-by (Does []) (ltb (own 0) l)
+        (λ _. pick-by (Does []) (u .write) (λ _. pick-by (Does []) (eqb (groupIn (r .bytes) (own 0) (u .group)) (u .value)) (λ _. over _) (λ _. on)) (λ _. over _)) (λ _. on)
+    makes-probe (suc d) ph =
+        pick-by (Does []) (both (both (ltb (own (suc d)) l) (negated (topHeld shape u r))) (both (bitIs0 shape u r d) (asksZero u))) (λ _. ends-so (omega (arith, ap most ph)) refl)
+        (λ _. goes-so (afterProbe (topOf shape) (suc d)) (probe-busy (topOf shape) (suc d)) (omega (arith, ap most ph)) refl)
 
-    -- Map
-    module _ (ph : u .phase ≡ Map) where
-      makes-onMap : (x : ℕ) (b : Brought) (cs : List Copy) → b .copies ≡ tally cs → length cs ≤ 2 → b .rows .memory ≡ backed l r (r .memory) (backs cs) → Does cs (onMap x u b)
-      unfolding onMap
-      makes-onMap x b cs q two m =
-          let over : (a : Said) → Does cs (ends a (b .shape) u (b .copies) (b .rows)) = (λ a. makes-ends l u r before e cs (b .copies) q (at-phase Map ph (length cs) (mostAt Idle) (omega arith)) m) in
-          let on : Does cs (holdsMap x u b) = makes-goes l u r before e cs (b .copies) q Leaf refl (at-phase Map ph (length cs) (mostAt Leaf) (omega arith)) m in
-          pick-by (Does cs) (eqb (bitIn (b .rows .bytes) (b .line) (u .group)) 0)
-          (λ _. pick-by (Does cs) (u .write) (λ _. pick-by (Does cs) (eqb (u .value) 0) (λ _. over _) (λ _. on)) (λ _. over _)) (λ _. on)
+    makes-top : u .phase ≡ Top → Does (copiesAt shape u r Top) (top shape (sit .x) u r)
+    makes-top ph = go (true-or-false (topHeld shape u r))
+      where
+        go : (topHeld shape u r ≡ true) ⊎ (topHeld shape u r ≡ false) → Does (copiesAt shape u r Top) (top shape (sit .x) u r)
+        go (inl h) = rw (top-wait shape (sit .x) u r h, h) (stays refl refl refl)
+        go (inr h) = let c = brought (block (topOf shape)) in rw (top-on shape (sit .x) u r h (c .line-lt), h) (makes-descend c (belowTop shape) (omega (arith, ap most ph)))
 
-      abbrev i : ℕ
-      i = lineOf (r .lines) l (mapBlock (shape .n) (u .group))
+    -- Leaf
+    module _ (ph : u .phase ≡ Under 0) where
+      abbrev k : ℕ
+      k = leafOf (u .group)
 
-      makes-wait : Does [] (waits u shape r)
-      makes-wait = record { sums-are = rw (sit .busy) (e ∙ ap tally (sym (append-none before))); within = rw ph (omega arith); backed-is = nothing }
-
-      makes-map : Does (copiesAt shape u r Map) (map shape (sit .x) u r)
-      makes-map = go (lt-or-ge i l) (true-or-false (held (at (r .lines) i)))
-        where
-          on : both (ltb i l) (held (at (r .lines) i)) ≡ false → Does (copiesAt shape u r Map) (map shape (sit .x) u r)
-          on h = let c = carries (mapBlock (shape .n) (u .group)) in
-              rw (map-on shape (sit .x) u r h (map-brings sit .line-lt), h) (makes-onMap (sit .x) (bringIn shape (mapBlock (shape .n) (u .group)) r) _ (c .sums) (c .two) (c .memory))
-
-          go : (i < l) ⊎ (l ≤ i) → (held (at (r .lines) i) ≡ true) ⊎ (held (at (r .lines) i) ≡ false) → Does (copiesAt shape u r Map) (map shape (sit .x) u r)
-          go (inl q) (inl h) = rw (map-wait shape (sit .x) u r q h, both-true _ _ (lt-ltb _ _ q) h) makes-wait
-          go (inl q) (inr h) = on (both-false-right _ _ h)
-          go (inr q) h = on (both-false-left _ _ (le-ltb _ _ q))
-
-    -- Leaf, the map block in line j
-    module _ (ph : u .phase ≡ Leaf) (j : ℕ) where
       abbrev b : Brought
-      b = bringIn shape (leafOf (u .group)) r
+      b = bringIn shape k r
 
-      abbrev cs : List Copy
-      cs = bringCopies shape (leafOf (u .group)) r
+      leaf-ends : {a : Said} {r' : Rows} → r' .memory ≡ b .rows .memory → Does (bringCopies shape k r) (ends a (b .shape) u (b .copies) r')
+      leaf-ends m = ends-with (brought k) (omega (arith, ap most ph)) m
 
-      leaf-over : {a : Said} {r' : Rows} → r' .memory ≡ b .rows .memory → Does cs (ends a (b .shape) u (b .copies) r')
-      leaf-over m = let c = carries (leafOf (u .group)) in
-          makes-ends l u r before e cs (b .copies) (c .sums) (at-phase Leaf ph (length cs) (mostAt Idle) (omega (arith, c .two))) (m ∙ c .memory)
-
-      makes-leafRead : Does cs (leafRead shape j u r)
-      makes-leafRead = rw (leafRead-is shape j u r (leaf-brings sit .line-lt)) (leaf-over refl)
-
-      makes-putIn : Does cs (putIn j u b)
+      makes-putIn : Does (bringCopies shape k r) (putIn own u b)
       unfolding putIn
-      makes-putIn = let c = carries (leafOf (u .group)) in
-          pick-by (Does cs) (allZero (lineBytes (bytesWith u b) (b .line)))
-          (λ _. makes-goes l u r before e cs (b .copies) (c .sums) Clear refl (at-phase Leaf ph (length cs) (mostAt Clear) (omega (arith, c .two))) (c .memory)) (λ _. leaf-over refl)
+      makes-putIn = pick-by (Does (bringCopies shape k r)) (allZero (lineBytes (bytesWith u b) (b .line)))
+          (λ _. goes-with (brought k) (Clear 0) refl (omega (arith, ap most ph)) refl) (λ _. leaf-ends refl)
 
-      makes-write1 : Does cs (writeUnder1 shape j u r)
+      makes-write1 : Does (bringCopies shape k r) (writeUnder1 shape u r)
       unfolding writeUnder1
-      makes-write1 = rw (lt-ltb _ _ (leaf-brings sit .line-lt)) (pick-by (Does cs) (eqb (groupIn (b .rows .bytes) (b .line) (u .group)) (u .value)) (λ _. leaf-over refl) (λ _. makes-putIn))
+      makes-write1 = rw (lt-ltb _ _ (brought k .line-lt))
+          (pick-by (Does (bringCopies shape k r)) (eqb (groupIn (b .rows .bytes) (b .line) (u .group)) (u .value)) (λ _. leaf-ends refl) (λ _. makes-putIn))
 
-      makes-write0 : Does (createCopies shape u r) (writeUnder0 shape j u r)
-      unfolding createCopies
-      makes-write0 = go (ℕ-discrete (u .value) 0) (lt-or-ge (lineOf (r .lines) l (leafOf (u .group))) l)
-        where
-          go : Dec (u .value ≡ 0) → (lineOf (r .lines) l (leafOf (u .group)) < l) ⊎ (l ≤ lineOf (r .lines) l (leafOf (u .group))) → Does (createCopies shape u r) (writeUnder0 shape j u r)
-          go (yes z) q = rw (write0-same shape j u r z, eq-eqb _ _ z)
-              (makes-ends l u r before e [] none (sym tally-none) (at-phase Leaf ph 0 (mostAt Idle) (omega arith)) nothing)
-          go (no z) (inl q) = rw (write0-line shape j u r z q, ne-eqb _ _ z, lt-ltb _ _ q)
-              (makes-goes l u r before e [] none (sym tally-none) Set refl (at-phase Leaf ph 0 (mostAt Set) (omega arith)) nothing)
-          go (no z) (inr q) = rw (write0-place shape j u r z q p-lt, ne-eqb _ _ z, le-ltb _ _ q)
-              (makes-goes l u r before e (placeCopies shape r) (tally (placeCopies shape r)) refl Set refl (at-phase Leaf ph (length (placeCopies shape r)) (mostAt Set) (omega (arith, place-one))) place-backed)
+      makes-leaf : (u .write ≡ true) ⊎ (u .write ≡ false) → (bitIs0 shape u r 0 ≡ true) ⊎ (bitIs0 shape u r 0 ≡ false) → Dec (u .value ≡ 0)
+          → Does (copiesAt shape u r (Under 0)) (under shape (sit .x) 0 u r)
+      makes-leaf (inr w) z v =
+          rw (copies-bring shape u r 0 (both-false-left _ _ w), leaf-over (shape .n) (u .group), under-read shape (sit .x) u r (line-above ph) w, leafRead-is shape u r (brought k .line-lt)) (leaf-ends refl)
+      makes-leaf (inl w) (inr z) v =
+          rw (copies-bring shape u r 0 (both-false-right _ _ z), leaf-over (shape .n) (u .group), under-write shape (sit .x) u r (line-above ph) w, leafWrite-1 shape u r (eqb-false _ _ z)) makes-write1
+      makes-leaf (inl w) (inl z) (yes v) =
+          rw (copies-same shape u r (both-true _ _ w z) v, under-write shape (sit .x) u r (line-above ph) w, leafWrite-0 shape u r (eqb-true _ _ z), write0-same shape u r v) (ends-so (omega (arith, ap most ph)) refl)
+      makes-leaf (inl w) (inl z) (no v) =
+          let c = created k (newLeaf u) in
+          rw (
+            copies-create shape u r 0 (both-true _ _ w z) (both-false-right _ _ (ne-eqb _ _ v)),
+            leaf-over (shape .n) (u .group),
+            under-write shape (sit .x) u r (line-above ph) w,
+            leafWrite-0 shape u r (eqb-true _ _ z),
+            write0-create shape u r v (c .line-lt),
+          ) (goes-with c (Set 0) refl (omega (arith, ap most ph)) refl)
 
-      makes-leafWrite : (bit : Bool) → eqb (bitIn (r .bytes) j (u .group)) 0 ≡ bit → Does (pick bit (createCopies shape u r) cs) (leafWrite shape j u r)
-      unfolding leafWrite
-      makes-leafWrite true q = rw q makes-write0
-      makes-leafWrite false q = rw q makes-write1
+    -- Map below a top
+    module _ (d : ℕ) (ph : u .phase ≡ Under (suc d)) where
+      makes-map : Does (copiesAt shape u r (Under (suc d))) (under shape (sit .x) (suc d) u r)
+      makes-map =
+          let c = carried d in
+          rw (under-map shape (sit .x) u r d (line-above ph) (c .line-lt)) (makes-descend c d (omega (arith, ap most ph, under-lt ph)))
 
-    -- the copies at Leaf, the map block in line j
-    abbrev leafCopies : ℕ → Bool → List Copy
-    leafCopies j write = pick (both write (eqb (bitIn (r .bytes) j (u .group)) 0)) (createCopies shape u r) (bringCopies shape (leafOf (u .group)) r)
+    makes-under : (d : ℕ) → u .phase ≡ Under d → Does (copiesAt shape u r (Under d)) (under shape (sit .x) d u r)
+    makes-under zero ph = makes-leaf ph (true-or-false _) (true-or-false _) (ℕ-discrete _ _)
+    makes-under (suc d) ph = makes-map d ph
 
-    makes-leaf : u .phase ≡ Leaf → (j : ℕ) (write : Bool) → Does (leafCopies j write) (pick write (leafWrite shape j u r) (leafRead shape j u r))
-    unfolding both
-    makes-leaf ph j true = makes-leafWrite ph j (eqb (bitIn (r .bytes) j (u .group)) 0) refl
-    makes-leaf ph j false = makes-leafRead ph j
+    -- Finish
+    dropped-memory : (j : ℕ) (put : Rows) → put .memory ≡ r .memory → dropEmpty j put .memory ≡ r .memory
+    dropped-memory j put m = pick-by (λ (o : Rows). o .memory ≡ r .memory) (allZero (lineBytes (put .bytes) j)) (λ _. m) (λ _. m)
 
-    makes-finish : (q : Phase) → u .phase ≡ q → mostAt q ≤ mostAt Idle → (j bit : ℕ) → Does [] (finish shape j bit u r)
-    unfolding finish
-    makes-finish q ph w j bit = makes-ends l u r before e [] none (sym tally-none) (at-phase q ph 0 (mostAt Idle) (omega arith)) nothing
+    finish-most : (s : Bool) (d c : ℕ) → (most (finishAt s d) ≤ most Idle) × (most (finishAt s d) ≤ most (finishAt s c)) × (isIdleAt (finishAt s c) ≡ false)
+    finish-most true d c = (omega arith, omega arith, refl)
+    finish-most false d c = (omega arith, omega arith, refl)
 
-    makes-inLine : (q : Phase) (cs : List Copy) → holdsAt (u .phase) ≡ true → Does cs (holding shape (lineOf (r .lines) l (mapBlock (shape .n) (u .group))) u r q) → Does cs (inLine shape u r q)
-    makes-inLine q cs h m = rw (inLine-is shape u r q (j-lt sit h)) m
+    makes-finish : (s : Bool) (d : ℕ) → u .phase ≡ finishAt s d → Does [] (finish shape s d u r)
+    unfolding finish finishBelow
+    makes-finish s d ph =
+        let f = finish-most s d (suc d) in
+        let over : (r' : Rows) → r' .memory ≡ r .memory → Does [] (ends (done (turnsOf u)) shape u none r') = (λ r' m. ends-so (omega (arith, ap most ph, f .0)) m) in
+        let put = putRows shape s d u r in
+        pick-by (Does []) (ltb (own (suc d)) l)
+        (λ _. pick-by (Does []) (ltb (suc d) (topOf shape))
+        (λ _. pick-by (Does []) (ltb (own (suc (suc d))) l)
+        (λ _. pick-by (Does []) (changesAbove shape s d u r) (λ _. goes-so (finishAt s (suc d)) (f .2) (omega (arith, ap most ph, f .1)) (dropped-memory (own (suc d)) put refl)) (λ _. over _ (dropped-memory (own (suc d)) put refl)))
+        (λ _. stays refl refl refl))
+        (λ _. over _ refl))
+        (λ _. stays refl refl refl)
 
     pub makes-byPhase : (q : Phase) → u .phase ≡ q → Does (copiesAt shape u r q) (byPhase shape (sit .x) u r q)
     makes-byPhase Idle ph = absurd (not-both-ways (ap isIdleAt ph) (sit .busy))
-    makes-byPhase Probe ph = makes-probe ph
-    makes-byPhase Map ph = makes-map ph
-    makes-byPhase Leaf ph = makes-inLine Leaf _ (ap holdsAt ph) (makes-leaf ph _ (u .write))
-    makes-byPhase Set ph = makes-inLine Set [] (ap holdsAt ph) (makes-finish Set ph (omega arith) _ 1)
-    makes-byPhase Clear ph = makes-inLine Clear [] (ap holdsAt ph) (makes-finish Clear ph (omega arith) _ 0)
+    makes-byPhase (Probe d) ph = makes-probe d ph
+    makes-byPhase Top ph = makes-top ph
+    makes-byPhase (Under d) ph = makes-under d ph
+    makes-byPhase (Set d) ph = makes-finish true d ph
+    makes-byPhase (Clear d) ph = makes-finish false d ph
 
 -- draining: lines that are yet to come are as they were
 module _ {B l : ℕ} (r : Rows) (a : Apart B l (r .lines)) where

@@ -6,35 +6,36 @@ use mathlib.Core.Logic.{_⊎_, inl, inr}
 use Prim.Native.Nat.{ℕ, _+_, _*_, _<_, _≤_}
 use native.Mathlib.Omega.{arith}
 use lib.Dec.{eqb, ltb}
-use lib.ListN.{length}
+use lib.ListN.{length, set}
 use borrow.Author.Tests.{eqb-true}
 use Rattle.laws.specs.Choice.{pick, both}
 use Rattle.laws.specs.Bytes.{putW}
 use Rattle.laws.proofs.Choice.{pick-by, both-right}
 use Rattle.laws.proofs.Splice.{lt-or-ge}
 use Rattle.geometry.specs.declared.Shape.{Shape}
-use Rattle.geometry.specs.TagMemory.{blocks, memoryLength, leafOf, blockPlace}
+use Rattle.geometry.specs.Shape.{topOf}
+use Rattle.geometry.specs.TagMemory.{blocksOf, lengthOf, blockOver, blockPlace}
 use Rattle.memory.specs.True.{blockAt}
 use Rattle.block.specs.Block.{blockOr0}
 use Rattle.block.proofs.Blocks.{blockOr0-fits}
 use Rattle.tracker.specs.declared.Phase.{Phase}
-use Rattle.tracker.specs.declared.Phase.the-variants.{Idle, Probe, Map, Leaf, Set, Clear}
+use Rattle.tracker.specs.declared.Phase.the-variants.{Idle, Probe, Top, Under, Set, Clear}
 use Rattle.tracker.specs.declared.Tracker.{Tracker}
-use Rattle.line.specs.Word.{blockOf, changed, held}
+use Rattle.line.specs.Word.{blockOf, changed, word}
 use Rattle.line.specs.Find.{lineOf}
+use Rattle.line.proofs.Words.{blockOf-word, used-word}
 use Rattle.rules.specs.State.{Rows}
-use Rattle.rules.specs.Whole.{mapBlock}
 use Rattle.rules.specs.Copies.{Copy, fetch, fetches}
-use Rattle.rules.specs.Place.{lineBytes, rowsFit, placeLine, writtenBack, placeMemory, placeCopies, bringIn, bringCopies}
-use Rattle.rules.specs.Step.{bitIn}
-use Rattle.rules.specs.Copied.{createCopies, copiesAt, Each}
+use Rattle.rules.specs.Place.{lineBytes, rowsFit, placeLine, writtenBack, placeMemory, placeCopies, bringIn, bringCopies, createCopies}
+use Rattle.rules.specs.Copied.{copiesAt, Each}
 use Rattle.rules.proofs.Words.{changed-used}
 use Rattle.rules.proofs.Copies.{fetches-++}
 use Rattle.rules.proofs.Blocks.{put-here, put-there, block-length}
-use Rattle.rules.proofs.Lined.{at, Has, lineOf-is, lineOf-none}
-use Rattle.rules.proofs.Placed.{brings, place-memory, place-memory-length, blockOr0-length, bring-placed}
-use Rattle.rules.proofs.Keeps.{Situation, few, small, group-ok, leaf-block, map-block}
-use Rattle.rules.proofs.Copied.{back-one, p-lt, place-copies, copies-found, copies-placed}
+use Rattle.rules.proofs.Lined.{at, Has, Apart, low, lineOf-is, lineOf-none, has-here, set-apart}
+use Rattle.rules.proofs.Placed.{place-memory, place-memory-length, blockOr0-length, bring-placed}
+use Rattle.rules.proofs.Ways.{topHeld}
+use Rattle.rules.proofs.Situation.{Situation, few, small, group-ok, block-lt}
+use Rattle.rules.proofs.Copied.{bitIs0, back-one, p-lt, place-copies, copies-found, copies-placed, under-lt}
 
 module _ (sit : Situation) where
   abbrev shape : Shape
@@ -68,34 +69,43 @@ module _ (sit : Situation) where
   unfolding fetches
   none-fetched = refl
 
-  create-fetches : fetches (createCopies shape u r) ≡ []
+  create-fetches : (b : ℕ) → fetches (createCopies shape b r) ≡ []
   unfolding createCopies
-  create-fetches = pick-by (λ (cs : List Copy). fetches cs ≡ []) (eqb (u .value) 0) (λ _. none-fetched)
-      (λ _. pick-by (λ (cs : List Copy). fetches cs ≡ []) (ltb (lineOf (r .lines) l (leafOf (u .group))) l) (λ _. none-fetched) (λ _. place-fetches))
+  create-fetches b = pick-by (λ (cs : List Copy). fetches cs ≡ []) (ltb (lineOf (r .lines) l b) l) (λ _. none-fetched) (λ _. place-fetches)
 
   -- each fetched block exists and is in no line
-  module _ (P : ℕ → Type 0) (each : (b : ℕ) → b < blocks (shape .n) → l ≤ lineOf (r .lines) l b → P b) where
-    each-brought : (b : ℕ) → b < blocks (shape .n) → Each P (fetches (bringCopies shape b r))
-    each-brought b bl = go (lt-or-ge (lineOf (r .lines) l b) l)
-      where
-        go : (lineOf (r .lines) l b < l) ⊎ (l ≤ lineOf (r .lines) l b) → Each P (fetches (bringCopies shape b r))
-        go (inl q) = rw (found-fetches b q) tt
-        go (inr q) = rw (placed-fetches b q) (each b bl q, tt)
+  module _ (P : ℕ → Type 0) (each : (b : ℕ) → b < blocksOf (topOf shape) (shape .n) → l ≤ lineOf (r .lines) l b → P b) where
+    abbrev EachOf : List Copy → Type 0
+    EachOf cs = Each P (fetches cs)
 
-    pub each-fetched : (q : Phase) → Each P (fetches (copiesAt shape u r q))
-    each-fetched Idle = rw none-fetched tt
-    each-fetched Probe = rw none-fetched tt
-    each-fetched Map =
-        pick-by (λ (cs : List Copy). Each P (fetches cs)) (both (ltb (lineOf (r .lines) l (mapBlock (shape .n) (u .group))) l) (held (at (r .lines) (lineOf (r .lines) l (mapBlock (shape .n) (u .group))))))
-        (λ _. rw none-fetched tt) (λ _. each-brought (mapBlock (shape .n) (u .group)) (map-block shape (sit .limits-ok) (u .group) (group-ok sit)))
-    each-fetched Leaf =
-        pick-by (λ (cs : List Copy). Each P (fetches cs)) (both (u .write) (eqb (bitIn (r .bytes) (lineOf (r .lines) l (mapBlock (shape .n) (u .group))) (u .group)) 0))
-        (λ _. rw create-fetches tt) (λ _. each-brought (leafOf (u .group)) (leaf-block shape (sit .limits-ok) (u .group) (group-ok sit)))
-    each-fetched Set = rw none-fetched tt
-    each-fetched Clear = rw none-fetched tt
+    each-none : (cs : List Copy) → fetches cs ≡ [] → EachOf cs
+    each-none cs e = rw e tt
+
+    -- the block of level e over its group, brought in
+    each-brought : (e : ℕ) → e ≤ topOf shape → EachOf (bringCopies shape (blockOver e (shape .n) (u .group)) r)
+    each-brought e el = go (lt-or-ge (lineOf (r .lines) l b) l)
+      where
+        b : ℕ
+        b = blockOver e (shape .n) (u .group)
+
+        go : (lineOf (r .lines) l b < l) ⊎ (l ≤ lineOf (r .lines) l b) → EachOf (bringCopies shape b r)
+        go (inl q) = each-none _ (found-fetches b q)
+        go (inr q) = rw (placed-fetches b q) (each b (block-lt shape e (u .group) el (group-ok sit)) q, tt)
+
+    pub each-fetched : (q : Phase) → u .phase ≡ q → EachOf (copiesAt shape u r q)
+    each-fetched Idle ph = each-none [] none-fetched
+    each-fetched (Probe d) ph = each-none [] none-fetched
+    each-fetched Top ph = pick-by EachOf (topHeld shape u r) (λ _. each-none [] none-fetched) (λ _. each-brought (topOf shape) (omega arith))
+    each-fetched (Under d) ph =
+        let b = blockOver d (shape .n) (u .group) in
+        pick-by EachOf (both (u .write) (bitIs0 shape u r d))
+        (λ _. pick-by EachOf (both (eqb d 0) (eqb (u .value) 0)) (λ _. each-none [] none-fetched) (λ _. each-none (createCopies shape b r) (create-fetches b)))
+        (λ _. each-brought d (omega (arith, under-lt sit ph)))
+    each-fetched (Set d) ph = each-none [] none-fetched
+    each-fetched (Clear d) ph = each-none [] none-fetched
 
   -- a block in no line is fetched as the memory has it: what is written back before is another
-  module _ (long : length (r .memory) ≡ memoryLength (shape .n)) (b : ℕ) (bl : b < blocks (shape .n)) (out : l ≤ lineOf (r .lines) l b) where
+  module _ (long : length (r .memory) ≡ lengthOf (topOf shape) (shape .n)) (b : ℕ) (bl : b < blocksOf (topOf shape) (shape .n)) (out : l ≤ lineOf (r .lines) l b) where
     bytes-long : length (r .bytes) ≡ 64 * l
     unfolding rowsFit
     bytes-long = eqb-true _ _ (both-right _ _ (sit .rows-fit))
@@ -114,11 +124,15 @@ module _ (sit : Situation) where
             b (omega (arith, long)) (λ q. lineOf-none (r .lines) l b p out (p-lt sit) (rw q h))
 
     -- and, brought in, its line has it so
-    brought-line : lineBytes (bringIn shape b r .rows .bytes) (bringIn shape b r .line) ≡ blockAt (r .memory) b
-    brought-line = rw (bring-placed shape b r out (p-lt sit))
-        (put-here (r .bytes) p (omega (arith, bytes-long, p-lt sit)) (blockOr0 (placeMemory shape r) (blockPlace b)) (blockOr0-length _ _) ∙ fetched-is)
+    is-b : blockOf (word b false 0) ≡ b
+    is-b = blockOf-word b false 0 (omega (arith, small sit)) (omega arith)
+
+    lines-apart : Apart (blocksOf (topOf shape) (shape .n)) l (set (r .lines) p (word b false 0))
+    lines-apart = set-apart (sit .lined .apart) p (word b false 0) (p-lt sit) (λ _. rw is-b bl) (λ _ j n h. lineOf-none (r .lines) l b j out (low (sit .lined .apart) j _ h) (rw is-b at h))
+
+    line-found : lineOf (set (r .lines) p (word b false 0)) l b ≡ p
+    line-found = lineOf-is lines-apart p b (has-here (sit .lined .apart) p (word b false 0) (p-lt sit) b (used-word b false 0 (omega (arith, small sit)) (omega arith)) is-b)
 
     pub fetched-line : lineBytes (bringIn shape b r .rows .bytes) (lineOf (bringIn shape b r .rows .lines) l b) ≡ blockAt (r .memory) b
-    fetched-line =
-        let i = brings shape r b (sit .lined) (few sit) (sit .rows-fit) (sit .hand-lt) bl (small sit) in
-        ap (lineBytes (bringIn shape b r .rows .bytes)) (lineOf-is (i .lined .apart) (bringIn shape b r .line) b (i .has-it)) ∙ brought-line
+    fetched-line = rw (bring-placed shape b r out (p-lt sit), line-found)
+        (put-here (r .bytes) p (omega (arith, bytes-long, p-lt sit)) (blockOr0 (placeMemory shape r) (blockPlace b)) (blockOr0-length _ _) ∙ fetched-is)

@@ -3,8 +3,14 @@ pub mod Copies
 pub mod Blocks
 pub mod Lined
 pub mod Whole
+pub mod Trackers
 pub mod Placed
 pub mod Ways
+pub mod LetGo
+pub mod Situation
+pub mod Turns
+pub mod KeepsLeaf
+pub mod KeepsFinish
 pub mod Keeps
 pub mod Copied
 pub mod Fetched

@@ -3,71 +3,69 @@ use mathlib.Core.Path.{_≡_, refl, sym, ap, _∙_, subst}
 use mathlib.Core.Bool.{Bool, true, false}
 use mathlib.Core.List.{List}
 use mathlib.Core.Logic.{_⊎_, inl, inr, ⊎-elim}
-use Prim.Native.Nat.{ℕ, suc, _+_, _-_, _<_, _≤_}
+use Prim.Native.Nat.{ℕ, suc, _+_, _-_, _*_, _<_, _≤_}
 use native.Mathlib.Omega.{arith}
 use lib.Dec.{eqb, ltb, leb}
 use lib.ListN.{length, getD, List·getD-eq-default}
 use borrow.Author.Tests.{lt-ltb, ltb-true, leb-true, le-leb, eqb-true, eq-eqb}
-use Rattle.tracker.proofs.Phases.{when}
+use Rattle.tracker.proofs.Phases.{asks-keeps}
 use Rattle.geometry.specs.declared.Shape.{Shape}
-use Rattle.geometry.specs.Shape.{atHand}
-use Rattle.geometry.specs.TagMemory.{groups, mostLeaves, mostTrackers, mostLines, inLimits, blocks}
-use Rattle.laws.specs.Choice.{pick, both, implies, no}
+use Rattle.geometry.specs.Shape.{atHand, topOf}
+use Rattle.geometry.specs.TagMemory.{groups, mostLeavesOf, mostTrackers, mostLines, inLimitsOf, blockOver, blocksOf}
+use Rattle.geometry.proofs.Limits.{inLimits-least, inLimits-most}
+use Rattle.geometry.proofs.Shapes.{below-hand}
+use Rattle.laws.specs.Choice.{both, implies, no}
 use Rattle.laws.specs.Scan.{all}
-use Rattle.laws.proofs.Choice.{not-both-ways, true-or-false, both-left, both-right, both-true, implies-true, implied, no-true}
+use Rattle.laws.proofs.Choice.{not-both-ways, both-left, both-right, both-true, implies-true, implied, no-true}
 use Rattle.laws.proofs.Splice.{lt-or-ge}
 use Rattle.laws.proofs.Scan.{all-at, all-is}
+use Rattle.laws.proofs.Some.{some-is, some-true}
 use Rattle.tracker.specs.declared.Phase.{Phase}
+use Rattle.tracker.specs.declared.Phase.the-variants.{Idle, Probe, Top, Under, Set, Clear}
 use Rattle.tracker.specs.declared.Tracker.{Tracker}
-use Rattle.tracker.specs.Tracker.{idle, isIdle, isIdleAt, holdsAt}
+use Rattle.tracker.specs.Tracker.{idle, isIdle, isIdleAt, levelOf, asksAt, keepsAt}
 use Rattle.line.specs.Word.{used, blockOf, holder, held}
 use Rattle.line.specs.Find.{lineOf}
 use Rattle.rules.specs.State.{State, trackerAt}
-use Rattle.rules.specs.Whole.{limits, mapBlock, holds, lineWhole, phaseWhole, trackerWhole, whole}
+use Rattle.rules.specs.Whole.{limits, keeps, lineWhole, phaseWhole, levelWhole, trackerWhole, whole}
 use Rattle.line.proofs.Words.{free-used}
 use Rattle.rules.proofs.Words.{held-holder, holder-held}
-use Rattle.rules.proofs.Lined.{at, Has, Held, Lined, low, lineOf-is, lineOf-has}
+use Rattle.rules.proofs.Lined.{at, Has, Apart, Claim, Kept, Lined, low, lineOf-is, lineOf-has}
 
--- one more than the block that a tracker holds; 0 for none
-unfoldable pub heldOf : ℕ → List Tracker → ℕ → ℕ
-heldOf n ts x = pick (holdsAt (trackerAt ts x .phase)) (suc (mapBlock n (trackerAt ts x .group))) 0
+-- what a tracker claims of n leaves' blocks, by its phase
+abbrev pub claimOf : ℕ → Tracker → Claim
+claimOf n u = record { keeps = keepsAt (u .phase); asks = asksAt (u .phase); block = λ e. blockOver e n (u .group); asks-keeps = asks-keeps (u .phase) }
 
--- a tracker holds one block at a time, and so one line; the k-th of the blocks that it holds is that one
-abbrev pub heldLines : ℕ
-heldLines = 1
+abbrev pub claimsOf : ℕ → List Tracker → ℕ → Claim
+claimsOf n ts x = claimOf n (trackerAt ts x)
 
-abbrev pub heldBlocks : ℕ → List Tracker → ℕ → ℕ → ℕ
-heldBlocks n ts x k = heldOf n ts x
-
--- the lines of a state with this shape and these trackers: each names its holder, which holds its block
+-- the lines of a state with this shape and these trackers: each names the tracker that keeps its block
 abbrev pub LinedBy : Shape → List Tracker → List ℕ → Type 0
-LinedBy shape ts lines = Lined (blocks (shape .n)) (shape .l) (shape .t) heldLines (heldBlocks (shape .n) ts) lines
+LinedBy shape ts lines = Lined (blocksOf (topOf shape) (shape .n)) (shape .l) (shape .t) (topOf shape) (claimsOf (shape .n) ts) lines
 
 -- the trackers: those from t on are idle, busy groups exist, phases are as they must be
-pub record Tracked (n t : ℕ) (ts : List Tracker) : Type 0 where
+pub record Tracked (top n t : ℕ) (ts : List Tracker) : Type 0 where
   pub long : t ≤ length ts
   pub above : (x : ℕ) → t ≤ x → isIdle (trackerAt ts x) ≡ true
   pub group-lt : (x : ℕ) → isIdle (trackerAt ts x) ≡ false → trackerAt ts x .group < groups n
-  pub phase-ok : (x : ℕ) → phaseWhole (trackerAt ts x .write) (trackerAt ts x .bottom) (trackerAt ts x .phase) ≡ true
+  pub phase-ok : (x : ℕ) → phaseWhole top (trackerAt ts x .write) (trackerAt ts x .bottom) (trackerAt ts x .phase) ≡ true
 
 pub record Whole (s : State) : Type 0 where
   pub limits-ok : limits (s .shape) ≡ true
   pub hand-lt : s .shape .hand < s .shape .l
   pub lined : LinedBy (s .shape) (s .trackers) (s .lines)
-  pub tracked : Tracked (s .shape .n) (s .shape .t) (s .trackers)
+  pub tracked : Tracked (topOf (s .shape)) (s .shape .n) (s .shape .t) (s .trackers)
 
 module _ (shape : Shape) (h : limits shape ≡ true) where
-  pub inLimits-of : inLimits (shape .n) ≡ true
+  pub inLimits-of : inLimitsOf (topOf shape) (shape .n) ≡ true
   unfolding limits
   inLimits-of = both-left _ _ h
 
   pub n-least : 1 ≤ shape .n
-  unfolding inLimits
-  n-least = leb-true _ _ (both-left _ _ inLimits-of)
+  n-least = inLimits-least (topOf shape) (shape .n) inLimits-of
 
-  pub n-most : shape .n ≤ mostLeaves
-  unfolding inLimits
-  n-most = leb-true _ _ (both-right _ _ inLimits-of)
+  pub n-most : shape .n ≤ mostLeavesOf (topOf shape)
+  n-most = inLimits-most (topOf shape) (shape .n) inLimits-of
 
   pub t-least : 1 ≤ shape .t
   unfolding limits
@@ -77,7 +75,7 @@ module _ (shape : Shape) (h : limits shape ≡ true) where
   unfolding limits
   t-most = leb-true _ _ (both-right _ _ (both-left _ _ (both-right _ _ h)))
 
-  pub l-least : shape .t + 1 ≤ shape .l
+  pub l-least : topOf shape * shape .t + 1 ≤ shape .l
   unfolding limits
   l-least = leb-true _ _ (both-left _ _ (both-right _ _ (both-right _ _ h)))
 
@@ -88,36 +86,53 @@ module _ (shape : Shape) (h : limits shape ≡ true) where
 -- the limits do not ask for the hand
 pub limits-hand : (shape : Shape) (h : ℕ) → limits (atHand shape h) ≡ limits shape
 unfolding limits
-limits-hand shape h = refl
+limits-hand shape h = rw (below-hand shape h)
 
-idle-ok : (w b : Bool) (p : Phase) → isIdleAt p ≡ true → phaseWhole w b p ≡ true
-idle-ok w b = when isIdleAt (phaseWhole w b) refl
+-- an idle tracker's phase is as it must be; a phase is of a level below the top
+idle-ok : (top : ℕ) (w b : Bool) (p : Phase) → isIdleAt p ≡ true → phaseWhole top w b p ≡ true
+idle-ok top w b Idle h = refl
+idle-ok top w b (Probe d) h = absurd (not-both-ways h refl)
+idle-ok top w b Top h = refl
+idle-ok top w b (Under d) h = absurd (not-both-ways h refl)
+idle-ok top w b (Set d) h = absurd (not-both-ways h refl)
+idle-ok top w b (Clear d) h = absurd (not-both-ways h refl)
 
-pub heldOf-yes : (n : ℕ) (ts : List Tracker) (x : ℕ) → holdsAt (trackerAt ts x .phase) ≡ true → heldOf n ts x ≡ suc (mapBlock n (trackerAt ts x .group))
-unfolding heldOf
-heldOf-yes n ts x e = rw e
+pub phase-level : (top : ℕ) (w b : Bool) (p : Phase) → phaseWhole (suc top) w b p ≡ true → levelOf p < suc top
+phase-level top w b Idle h = omega arith
+phase-level top w b (Probe d) h = ltb-true _ _ (both-right _ _ h)
+phase-level top w b Top h = omega arith
+phase-level top w b (Under d) h = ltb-true _ _ h
+phase-level top w b (Set d) h = ltb-true _ _ (both-right _ _ h)
+phase-level top w b (Clear d) h = ltb-true _ _ (both-right _ _ h)
 
-pub heldOf-no : (n : ℕ) (ts : List Tracker) (x : ℕ) → holdsAt (trackerAt ts x .phase) ≡ false → heldOf n ts x ≡ 0
-unfolding heldOf
-heldOf-no n ts x e = rw e
+-- to keep a block is to keep it at a level
+module _ (top n : ℕ) (u : Tracker) (b : ℕ) where
+  abbrev keeps-here : ℕ → Bool
+  keeps-here e = both (keepsAt (u .phase) (suc e)) (eqb (blockOver (suc e) n (u .group)) b)
 
--- what is held is held at Leaf or Finish, and is the own group's map block
-pub heldOf-is : (n : ℕ) (ts : List Tracker) (x m : ℕ) → heldOf n ts x ≡ suc m → (holdsAt (trackerAt ts x .phase) ≡ true) × (mapBlock n (trackerAt ts x .group) ≡ m)
-heldOf-is n ts x m e = go (true-or-false (holdsAt (trackerAt ts x .phase)))
-  where
-    go : (holdsAt (trackerAt ts x .phase) ≡ true) ⊎ (holdsAt (trackerAt ts x .phase) ≡ false) → (holdsAt (trackerAt ts x .phase) ≡ true) × (mapBlock n (trackerAt ts x .group) ≡ m)
-    go (inl h) = (h, let z = heldOf-yes n ts x h in omega arith)
-    go (inr h) = absurd (let z = heldOf-no n ts x h in omega arith)
+  pub keeps-kept : keeps top n u b ≡ true → Kept top (claimOf n u) b
+  unfolding keeps
+  keeps-kept h =
+      let o = some-is keeps-here top h in
+      record { below = o .one; below-lt = o .one-lt; is-kept = both-left _ _ (o .holds-there); its-block = eqb-true _ _ (both-right _ _ (o .holds-there)) }
 
-holds-heldOf : (n : ℕ) (ts : List Tracker) (x b : ℕ) → holds n (trackerAt ts x) b ≡ true → heldOf n ts x ≡ suc b
-unfolding holds
-holds-heldOf n ts x b h = heldOf-yes n ts x (both-left _ _ h) ∙ ap suc (eqb-true _ _ (both-right _ _ h))
-
-pub heldOf-holds : (n : ℕ) (ts : List Tracker) (x b : ℕ) → heldOf n ts x ≡ suc b → holds n (trackerAt ts x) b ≡ true
-unfolding holds
-heldOf-holds n ts x b h = let r = heldOf-is n ts x b h in both-true _ _ (r .0) (eq-eqb _ _ (r .1))
+  pub kept-keeps : Kept top (claimOf n u) b → keeps top n u b ≡ true
+  unfolding keeps
+  kept-keeps o = some-true keeps-here top (o .below) (o .below-lt) (both-true _ _ (o .is-kept) (eq-eqb _ _ (o .its-block)))
 
 module _ (s : State) (w : whole s ≡ true) where
+  abbrev top : ℕ
+  top = topOf (s .shape)
+
+  abbrev n : ℕ
+  n = s .shape .n
+
+  abbrev t : ℕ
+  t = s .shape .t
+
+  abbrev l : ℕ
+  l = s .shape .l
+
   part1 : both (limits (s .shape)) (ltb (s .shape .hand) (s .shape .l)) ≡ true
   unfolding whole
   part1 = both-left _ _ w
@@ -156,55 +171,69 @@ module _ (s : State) (w : whole s ≡ true) where
   used-low i u = ⊎-elim (λ q. q) (λ q. absurd (not-both-ways u (free-above i q))) (lt-or-ge i (s .shape .l))
 
   line-facts : (i b : ℕ) → Has (s .lines) i b
-      → both (both (ltb b (blocks (s .shape .n))) (eqb (lineOf (s .lines) (s .shape .l) b) i))
-      (implies (held (at (s .lines) i)) (both (leb (holder (at (s .lines) i)) (s .shape .t)) (holds (s .shape .n) (trackerAt (s .trackers) (holder (at (s .lines) i) - 1)) b))) ≡ true
+      → both (both (ltb b (blocksOf top n)) (eqb (lineOf (s .lines) l b) i))
+      (implies (held (at (s .lines) i)) (both (leb (holder (at (s .lines) i)) t) (keeps top n (trackerAt (s .trackers) (holder (at (s .lines) i) - 1)) b))) ≡ true
   unfolding lineWhole
-  line-facts i b h = rw (h .is-block) at (implies-true _ _ (all-at (lineWhole s) (s .shape .l) lines-ok i (used-low i (h .is-used))) (h .is-used))
+  line-facts i b h = rw (h .is-block) at (implies-true _ _ (all-at (lineWhole s) l lines-ok i (used-low i (h .is-used))) (h .is-used))
 
-  -- where tracker x's map block is
-  mine : ℕ → ℕ
-  mine x = lineOf (s .lines) (s .shape .l) (mapBlock (s .shape .n) (trackerAt (s .trackers) x .group))
+  tracker-facts : (x : ℕ) → x < t
+      → both (both (implies (no (isIdle (trackerAt (s .trackers) x))) (ltb (trackerAt (s .trackers) x .group) (groups n)))
+      (phaseWhole top (trackerAt (s .trackers) x .write) (trackerAt (s .trackers) x .bottom) (trackerAt (s .trackers) x .phase)))
+      (all (λ e. levelWhole s x (trackerAt (s .trackers) x) (suc e)) top) ≡ true
+  unfolding trackerWhole
+  tracker-facts x q = all-at (trackerWhole s) t trackers-ok x q
 
-  tracker-facts : (x : ℕ) → x < s .shape .t
-      → both (both (implies (no (isIdle (trackerAt (s .trackers) x))) (ltb (trackerAt (s .trackers) x .group) (groups (s .shape .n))))
-      (phaseWhole (trackerAt (s .trackers) x .write) (trackerAt (s .trackers) x .bottom) (trackerAt (s .trackers) x .phase)))
-      (implies (holdsAt (trackerAt (s .trackers) x .phase)) (both (ltb (mine x) (s .shape .l)) (eqb (holder (at (s .lines) (mine x))) (x + 1)))) ≡ true
-  unfolding trackerWhole mine
-  tracker-facts x q = all-at (trackerWhole s) (s .shape .t) trackers-ok x q
+  -- of tracker x and level e + 1, whose block has its line here
+  module _ (x e : ℕ) (xl : x < t) (el : e < top) where
+    abbrev block : ℕ
+    block = claimsOf n (s .trackers) x .block (suc e)
+
+    abbrev line : ℕ
+    line = lineOf (s .lines) l block
+
+    level-facts : both (implies (asksAt (trackerAt (s .trackers) x .phase) (suc e)) (ltb line l))
+        (implies (both (keepsAt (trackerAt (s .trackers) x .phase) (suc e)) (ltb line l)) (eqb (holder (at (s .lines) line)) (x + 1))) ≡ true
+    unfolding levelWhole
+    level-facts = all-at (λ k. levelWhole s x (trackerAt (s .trackers) x) (suc k)) top (both-right _ _ (tracker-facts x xl)) e el
+
+    asked-lt : claimsOf n (s .trackers) x .asks (suc e) ≡ true → line < l
+    asked-lt h = ltb-true _ _ (implies-true _ _ (both-left _ _ level-facts) h)
+
+    kept-holder : claimsOf n (s .trackers) x .keeps (suc e) ≡ true → line < l → holder (at (s .lines) line) ≡ x + 1
+    kept-holder h q = eqb-true _ _ (implies-true _ _ (both-right _ _ level-facts) (both-true _ _ h (lt-ltb _ _ q)))
+
+  apart-facts : Apart (blocksOf top n) l (s .lines)
+  apart-facts = record {
+    long = leb-true _ _ (both-left _ _ part2);
+    above = free-above;
+    exists = λ i b h. ltb-true _ _ (both-left _ _ (both-left _ _ (line-facts i b h)));
+    one = λ i j b h h'. sym (eqb-true _ _ (both-right _ _ (both-left _ _ (line-facts i b h)))) ∙ eqb-true _ _ (both-right _ _ (both-left _ _ (line-facts j b h')));
+  }
 
   lined-facts : LinedBy (s .shape) (s .trackers) (s .lines)
-  unfolding mine
   lined-facts = record {
-    apart = record {
-      long = leb-true _ _ (both-left _ _ part2);
-      above = free-above;
-      exists = λ i b h. ltb-true _ _ (both-left _ _ (both-left _ _ (line-facts i b h)));
-      one = λ i j b h h'. sym (eqb-true _ _ (both-right _ _ (both-left _ _ (line-facts i b h)))) ∙ eqb-true _ _ (both-right _ _ (both-left _ _ (line-facts j b h')));
-    };
+    apart = apart-facts;
     named = λ i b h p. let r = implies-true _ _ (both-right _ _ (line-facts i b h)) (holder-held _ p) in
-        (leb-true _ _ (both-left _ _ r), record { which = 0; which-lt = omega arith; is-held = holds-heldOf (s .shape .n) (s .trackers) _ b (both-right _ _ r) });
-    in-line = λ x k m q kl e. in-line x m q e;
+        (leb-true _ _ (both-left _ _ r), keeps-kept top n _ b (both-right _ _ r));
+    marked = λ x e i xl el k h. let q : line x e xl el ≡ i = lineOf-is apart-facts i _ h in
+        subst (λ (j : ℕ). holder (at (s .lines) j) ≡ x + 1) q (kept-holder x e xl el k (rw q (low apart-facts i _ h)));
+    in-line = λ x e xl el k. let q = asked-lt x e xl el k in
+        record { line = line x e xl el; has-it = lineOf-has (s .lines) l _ q; is-holder = kept-holder x e xl el (asks-keeps (trackerAt (s .trackers) x .phase) (suc e) k) q };
   }
-    where
-      in-line : (x m : ℕ) → x < s .shape .t → heldOf (s .shape .n) (s .trackers) x ≡ suc m → Held (s .lines) x m
-      in-line x m q e =
-          let r = heldOf-is (s .shape .n) (s .trackers) x m e in
-          let f : both (ltb (mine x) (s .shape .l)) (eqb (holder (at (s .lines) (mine x))) (x + 1)) ≡ true = implies-true _ _ (both-right _ _ (tracker-facts x q)) (r .0) in
-          record { line = mine x; has-it = subst (λ (z : ℕ). Has (s .lines) (mine x) z) (r .1) (lineOf-has (s .lines) (s .shape .l) (mapBlock (s .shape .n) (trackerAt (s .trackers) x .group)) (ltb-true _ _ (both-left _ _ f))); is-holder = eqb-true _ _ (both-right _ _ f) }
 
-  tracked-facts : Tracked (s .shape .n) (s .shape .t) (s .trackers)
+  tracked-facts : Tracked top n t (s .trackers)
   unfolding no
   tracked-facts = record {
     long = leb-true _ _ (both-right _ _ part2);
     above = idle-above;
-    group-lt = λ x e. group x e (lt-or-ge x (s .shape .t));
-    phase-ok = λ x. ⊎-elim (λ q. both-right _ _ (both-left _ _ (tracker-facts x q))) (λ q. idle-ok (trackerAt (s .trackers) x .write) (trackerAt (s .trackers) x .bottom) (trackerAt (s .trackers) x .phase) (idle-above x q)) (lt-or-ge x (s .shape .t));
+    group-lt = λ x e. group x e (lt-or-ge x t);
+    phase-ok = λ x. ⊎-elim (λ q. both-right _ _ (both-left _ _ (tracker-facts x q))) (λ q. idle-ok top (trackerAt (s .trackers) x .write) (trackerAt (s .trackers) x .bottom) (trackerAt (s .trackers) x .phase) (idle-above x q)) (lt-or-ge x t);
   }
     where
       no-is : {b : Bool} → b ≡ false → no b ≡ true
       no-is {b} e = rw e
 
-      group : (x : ℕ) → isIdle (trackerAt (s .trackers) x) ≡ false → (x < s .shape .t) ⊎ (s .shape .t ≤ x) → trackerAt (s .trackers) x .group < groups (s .shape .n)
+      group : (x : ℕ) → isIdle (trackerAt (s .trackers) x) ≡ false → (x < t) ⊎ (t ≤ x) → trackerAt (s .trackers) x .group < groups n
       group x e (inl q) = ltb-true _ _ (implies-true _ _ (both-left _ _ (both-left _ _ (tracker-facts x q))) (no-is e))
       group x e (inr q) = absurd (not-both-ways (idle-above x q) e)
 
@@ -222,16 +251,21 @@ module _ (s : State) (f : Whole s) where
   line-back i = implied _ _ (λ u.
       let h : Has (s .lines) i (blockOf (at (s .lines) i)) = record { is-used = u; is-block = refl } in
       both-true _ _ (both-true _ _ (lt-ltb _ _ (f .lined .apart .exists i _ h)) (eq-eqb _ _ (lineOf-is (f .lined .apart) i _ h)))
-      (implied _ _ (λ p. let r = f .lined .named i _ h (held-holder _ p) in both-true _ _ (le-leb _ _ (r .0)) (heldOf-holds (s .shape .n) (s .trackers) _ _ (r .1 .is-held)))))
+      (implied _ _ (λ p. let r = f .lined .named i _ h (held-holder _ p) in
+      both-true _ _ (le-leb _ _ (r .0)) (kept-keeps (topOf (s .shape)) (s .shape .n) _ _ (r .1)))))
+
+  level-back : (x e : ℕ) → x < s .shape .t → e < topOf (s .shape) → levelWhole s x (trackerAt (s .trackers) x) (suc e) ≡ true
+  unfolding levelWhole
+  level-back x e xl el =
+      both-true _ _
+      (implied _ _ (λ k. let h = f .lined .in-line x e xl el k in rw (lineOf-is (f .lined .apart) (h .line) _ (h .has-it)) (lt-ltb _ _ (low (f .lined .apart) (h .line) _ (h .has-it)))))
+      (implied _ _ (λ k. eq-eqb _ _ (f .lined .marked x e _ xl el (both-left _ _ k) (lineOf-has (s .lines) (s .shape .l) _ (ltb-true _ _ (both-right _ _ k))))))
 
   tracker-back : (x : ℕ) → x < s .shape .t → trackerWhole s x ≡ true
   unfolding trackerWhole
   tracker-back x q =
       both-true _ _ (both-true _ _ (implied _ _ (λ p. lt-ltb _ _ (f .tracked .group-lt x (no-true _ p)))) (f .tracked .phase-ok x))
-      (implied _ _ (λ p.
-      let h = f .lined .in-line x 0 (mapBlock (s .shape .n) (trackerAt (s .trackers) x .group)) q (omega arith) (heldOf-yes (s .shape .n) (s .trackers) x p) in
-      let e : lineOf (s .lines) (s .shape .l) (mapBlock (s .shape .n) (trackerAt (s .trackers) x .group)) ≡ h .line = lineOf-is (f .lined .apart) (h .line) _ (h .has-it) in
-      rw e (both-true _ _ (lt-ltb _ _ (low (f .lined .apart) (h .line) _ (h .has-it))) (eq-eqb _ _ (h .is-holder)))))
+      (all-is _ _ (λ e el. level-back x e q el))
 
   no-used : (i : ℕ) → s .shape .l ≤ i → no (used (at (s .lines) i)) ≡ true
   unfolding no
@@ -246,3 +280,13 @@ module _ (s : State) (f : Whole s) where
       (all-is _ _ (λ i q. implied _ _ (λ p. no-used i (leb-true _ _ p))))
       (all-is _ _ (λ x q. implied _ _ (λ p. f .tracked .above x (leb-true _ _ p)))))
       (both-true _ _ (all-is _ _ (λ i q. line-back i)) (all-is _ _ (λ x q. tracker-back x q)))))
+
+-- nor does a whole state ask for the hand, but that it is at a line
+pub hand-whole : (shape : Shape) (h : ℕ) (lines : List ℕ) (ts : List Tracker) → limits shape ≡ true → h < shape .l → LinedBy shape ts lines → Tracked (topOf shape) (shape .n) (shape .t) ts
+    → Whole (record { shape = atHand shape h; lines = lines; trackers = ts })
+hand-whole shape h lines ts lim hl v k = record {
+  limits-ok = limits-hand shape h ∙ lim;
+  hand-lt = hl;
+  lined = subst (λ (b : ℕ). Lined (blocksOf (suc b) (shape .n)) (shape .l) (shape .t) (suc b) (claimsOf (shape .n) ts) lines) (sym (below-hand shape h)) v;
+  tracked = subst (λ (b : ℕ). Tracked (suc b) (shape .n) (shape .t) ts) (sym (below-hand shape h)) k;
+}

@@ -1,5 +1,5 @@
 -- What a word says of its holder, and of a line that changes hands, as the laws of whole states need it; the other laws of words are line's.
-use mathlib.Core.Path.{_≡_, refl, ap}
+use mathlib.Core.Path.{_≡_, refl, ap, _∙_}
 use mathlib.Core.Bool.{true, false}
 use mathlib.Core.Logic.{⊎-elim}
 use Prim.Native.Nat.{ℕ, _<_, _≤_}
@@ -25,7 +25,10 @@ pub holder-held : (w : ℕ) → 0 < holder w → held w ≡ true
 unfolding held
 holder-held w h = lt-ltb _ _ h
 
--- a changed line is not free
+-- a line that names a holder is not free, nor is a changed one
+pub held-used : (w : ℕ) → 0 < holder w → used w ≡ true
+held-used w p = ⊎-elim (λ u. u) (λ u. absurd (let z : holder w ≡ 0 = ap holder (not-used w u) ∙ holder-free in omega arith)) (true-or-false (used w))
+
 pub changed-used : (w : ℕ) → changed w ≡ true → used w ≡ true
 unfolding changed
 changed-used w e = ⊎-elim (λ u. u) (λ u. absurd (not-both-ways e (ap changed (not-used w u)))) (true-or-false (used w))

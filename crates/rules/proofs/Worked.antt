@@ -4,28 +4,31 @@ use mathlib.Core.Bool.{true, false}
 use mathlib.Core.List.{List, [], _∷_, _++_}
 use Prim.Native.Nat.{ℕ}
 use lib.ListN.{replicate}
-use Rattle.geometry.specs.TagMemory.{leafOf, byteOf, groups, mapBlockOf, mapByteOf, mapBitOf, mapBlocks, inLimits}
+use Rattle.geometry.specs.Shape.{belowTop}
+use Rattle.geometry.specs.TagMemory.{leafOf, byteOf, groups, mapBlockOf, mapByteOf, mapBitOf, index, mapBlocks, inLimitsOf}
 use Rattle.laws.specs.Refusal.{refusal, unless}
 use Rattle.laws.specs.Choice.{both, either, implies, no}
 use Rattle.laws.specs.Bytes.{part, splice, fits, putW, value, bytes, numberAt}
-use Rattle.laws.specs.Scan.{first, all}
+use Rattle.laws.specs.Scan.{first, all, some}
 use Rattle.laws.specs.Bits.{bitOf, withBit}
 use Rattle.block.specs.Block.{bitAt, putBit, allZero, blockOr0}
 use Rattle.memory.specs.PlainReading.{leafBit, plainGroup}
 use Rattle.memory.specs.True.{trueAt, isTrue, clearedMap}
+use Rattle.tracker.specs.declared.Phase.the-variants.{Idle}
 use Rattle.tracker.specs.declared.Transfers.{Transfers}
 use Rattle.tracker.specs.Transfers.{none}
-use Rattle.tracker.specs.Tracker.{readOf, writeOf}
+use Rattle.tracker.specs.Tracker.{readOf, writeOf, asksAt, keepsAt}
 use Rattle.tracker.specs.Answer.{ok, wait, moved, read, done, same, no as says-no}
 use Rattle.line.specs.Word.{used, blockOf, changed, holder, held, has, word, heldBy, cleaned}
 use Rattle.line.specs.Find.{lineOf, lowestFree, looseFrom, victim, after}
-use Rattle.rules.specs.State.{lengthsRight}
-use Rattle.rules.specs.Whole.{limits, holds, lineWhole, trackerWhole, whole}
-use Rattle.rules.specs.Copies.{fetches, backs, tally}
-use Rattle.rules.specs.Place.{rowsFit, placeLine, placeHand, writtenBack, backOf, placeMemory, placeCopies, bringIn, drained, drainCopies}
-use Rattle.rules.specs.Step.{probe, onMap, map, leafRead, putIn, writeUnder1, writeUnder0, leafWrite, finish, inLine, fit, turnOf}
-use Rattle.rules.specs.Calls.{fresh, opened, meets, meetsNone, issueNo, issue, stepNo, step, allIdle, drainNo, drain, showNo, shownBit, show}
-use Rattle.rules.specs.Run.{Call, issues, steps, drains, lends, Kept, kept, does, answers, ended, transfers}
+use Rattle.rules.specs.State.{lengthsRight, trackerAt}
+use Rattle.rules.specs.Whole.{limits, keeps, lineWhole, levelWhole, trackerWhole, whole}
+use Rattle.rules.specs.Copies.{Copy, fetch, back, fetches, backs, tally}
+use Rattle.rules.specs.Place.{rowsFit, placeLine, placeHand, writtenBack, backOf, placeMemory, placeCopies, bringIn, create, bringCopies, createCopies, drained, drainCopies}
+use Rattle.rules.specs.Step.{letGo, probe, descend, top, leafRead, putIn, writeUnder1, writeUnder0, leafWrite, underBit, under, finishBelow, finish, fit, turnOf}
+use Rattle.rules.specs.Copied.{copies}
+use Rattle.rules.specs.Calls.{withTracker, fresh, opened, meets, meetsNone, issueNo, issue, stepNo, step, allIdle, drainNo, drain, showNo, shownBit, show}
+use Rattle.rules.specs.Run.{Call, issues, steps, drains, lends, Kept, kept, rowsOf, does, answers, ended, transfers}
 
 -- a fresh memory of n leaves over stale bytes, two trackers, three lines
 abbrev two-leaves : Kept
@@ -44,6 +47,18 @@ reads g = issues 0 (readOf false g) ∷ steps 0 ∷ steps 0 ∷ []
 -- so many fetched and so many written back
 abbrev sums : ℕ → ℕ → Transfers
 sums i o = record { fetched = i; back = o }
+
+-- tracker 0 idle, and yet with sums
+abbrev with-sums : Kept
+with-sums = record {
+  state = withTracker (two-leaves .state) 0 (record { phase = Idle; write = false; bottom = false; group = 0; value = 0; turns = 0; transfers = sums 1 1 });
+  bytes = two-leaves .bytes;
+  memory = two-leaves .memory;
+}
+
+-- the copies of the step that tracker 0 is to make after these calls
+abbrev next-copies : Kept → List Call → List Copy
+next-copies k cs = let o = ended k cs in copies (o .state .shape) (trackerAt (o .state .trackers) 0) (rowsOf o)
 
 pub record Worked : Type 0 where
   -- Case R
@@ -70,6 +85,9 @@ pub record Worked : Type 0 where
       ∷ issues 1 (readOf true 17) ∷ steps 1 ∷ steps 1 ∷ (creates 18 5 ++ reads 17)))
       ≡ ok ∷ moved ∷ moved ∷ done 3 ∷ ok ∷ moved ∷ moved ∷ ok ∷ wait ∷ done 3 ∷ read 0 2
       ∷ ok ∷ moved ∷ read 0 2 ∷ ok ∷ moved ∷ moved ∷ done 3 ∷ ok ∷ moved ∷ read 0 2 ∷ []
+  -- a map block that a write empties, at the top, is stored: the bit that memory has of it is not read again
+  pub top-stored : answers two-leaves (creates 17 10 ++ (drains ∷ issues 0 (writeOf false 17 0) ∷ steps 0 ∷ steps 0 ∷ steps 0 ∷ reads 17))
+      ≡ ok ∷ moved ∷ moved ∷ done 3 ∷ ok ∷ ok ∷ moved ∷ moved ∷ done 3 ∷ ok ∷ read 0 1 ∷ says-no 8 ∷ []
   -- "same" at Map under bit 0 and at Leaf under bit 1
   pub same-twice : answers two-leaves (issues 0 (writeOf false 17 0) ∷ steps 0 ∷ (creates 17 10 ++ (issues 0 (writeOf false 17 10) ∷ steps 0 ∷ steps 0 ∷ [])))
       ≡ ok ∷ same 1 ∷ ok ∷ moved ∷ moved ∷ done 3 ∷ ok ∷ moved ∷ same 2 ∷ []
@@ -81,6 +99,13 @@ pub record Worked : Type 0 where
   pub eviction-transfers : transfers four-leaves (creates 17 10 ++ (creates 33 11 ++ (creates 49 12 ++ (reads 17 ++ (reads 33 ++ (reads 49 ++ (drains ∷ [])))))))
       ≡ none ∷ none ∷ none ∷ sums 1 0 ∷ none ∷ none ∷ none ∷ none ∷ none ∷ none ∷ none ∷ sums 0 1
       ∷ none ∷ none ∷ sums 1 1 ∷ none ∷ none ∷ sums 1 1 ∷ none ∷ none ∷ sums 1 0 ∷ sums 0 1 ∷ []
+  -- the copies of a step: Map fetches its block, which comes after the four leaves; a created leaf is not fetched, and what gives way to it is written back; a leaf that is
+  -- brought in is fetched after that
+  pub copies-at-map : next-copies four-leaves (issues 0 (readOf false 17) ∷ []) ≡ fetch 4 ∷ []
+  pub copies-of-created : next-copies four-leaves (creates 17 10 ++ (creates 33 11 ++ (issues 0 (writeOf false 49 12) ∷ steps 0 ∷ []))) ≡ back 1 ∷ []
+  pub copies-of-brought : next-copies four-leaves (creates 17 10 ++ (creates 33 11 ++ (creates 49 12 ++ (issues 0 (readOf false 17) ∷ steps 0 ∷ [])))) ≡ back 2 ∷ fetch 1 ∷ []
+  -- an access begins with no transfers, whatever its tracker had
+  pub issue-clears : trackerAt (ended with-sums (issues 0 (readOf false 17) ∷ []) .state .trackers) 0 .transfers ≡ none
   -- a group changed in a leaf that stays: ends at Leaf
   pub changes : answers two-leaves (creates 17 10 ++ (issues 0 (writeOf false 18 7) ∷ steps 0 ∷ steps 0 ∷ reads 17))
       ≡ ok ∷ moved ∷ moved ∷ done 3 ∷ ok ∷ moved ∷ done 2 ∷ ok ∷ moved ∷ read 10 2 ∷ []
@@ -98,16 +123,21 @@ pub record Worked : Type 0 where
       ≡ says-no 2 ∷ says-no 5 ∷ says-no 6 ∷ ok ∷ says-no 7 ∷ says-no 7 ∷ says-no 8 ∷ []
 
 pub worked : Worked
-unfolding both either implies no refusal unless leafOf byteOf groups mapBlockOf mapByteOf mapBitOf mapBlocks part splice fits putW value bytes numberAt first all bitOf withBit inLimits bitAt putBit allZero blockOr0 leafBit plainGroup trueAt isTrue clearedMap used blockOf changed holder held has word heldBy cleaned lineOf lowestFree looseFrom victim after lengthsRight limits holds lineWhole trackerWhole whole rowsFit placeLine placeHand fetches backs tally writtenBack backOf placeMemory placeCopies bringIn drained drainCopies probe onMap map leafRead putIn writeUnder1 writeUnder0 leafWrite finish inLine fit turnOf fresh opened meets meetsNone issueNo issue stepNo step allIdle drainNo drain showNo shownBit show does answers ended transfers
+unfolding both either implies no refusal unless leafOf byteOf groups mapBlockOf mapByteOf mapBitOf index mapBlocks part splice fits putW value bytes numberAt first all some bitOf withBit belowTop inLimitsOf bitAt putBit allZero blockOr0 leafBit plainGroup trueAt isTrue clearedMap used blockOf changed holder held has word heldBy cleaned lineOf lowestFree looseFrom victim after lengthsRight limits keeps levelWhole lineWhole trackerWhole whole rowsFit placeLine placeHand fetches backs tally writtenBack backOf placeMemory placeCopies bringIn create bringCopies createCopies copies drained drainCopies asksAt keepsAt letGo probe descend top leafRead putIn writeUnder1 writeUnder0 leafWrite underBit under finishBelow finish fit turnOf fresh opened meets meetsNone issueNo issue stepNo step allIdle drainNo drain showNo shownBit show does answers ended transfers
 worked = record {
   case-r = refl;
   in-turn = refl;
   neighbour = refl;
   held-to-finish = refl;
   emptied = refl;
+  top-stored = refl;
   same-twice = refl;
   eviction = refl;
   eviction-transfers = refl;
+  copies-at-map = refl;
+  copies-of-created = refl;
+  copies-of-brought = refl;
+  issue-clears = refl;
   changes = refl;
   drained-reads = refl;
   drained-true = refl;

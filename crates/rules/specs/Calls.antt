@@ -1,18 +1,18 @@
 -- 01 "What is refused": fresh, open, issue, step, drain and show, each with its refusals in order; 02 E3's with issue's, 02 E4's transfers.
 use mathlib.Core.List.{List, [], _∷_, _++_}
-use mathlib.Core.Bool.{Bool, not}
-use Prim.Native.Nat.{ℕ, _+_}
+use mathlib.Core.Bool.{Bool, true, not}
+use Prim.Native.Nat.{ℕ, zero, suc, _+_}
 use lib.Dec.{eqb, ltb}
 use lib.ListN.{set}
 use Rattle.geometry.specs.declared.Shape.{Shape}
-use Rattle.geometry.specs.Shape.{shapeOf}
-use Rattle.geometry.specs.TagMemory.{groups, mapBlockOf, mapByteOf, mapBitOf, blockPlace}
+use Rattle.geometry.specs.Shape.{shapeOf, topOf}
+use Rattle.geometry.specs.TagMemory.{groups, mapBlockOf, mapByteOf, mapBitOf, blockOn, blockPlace}
 use Rattle.laws.specs.Choice.{pick, both, either}
 use Rattle.laws.specs.Refusal.{Tests, refusal, unless}
 use Rattle.laws.specs.Scan.{all}
 use Rattle.block.specs.Block.{bitAt}
-use Rattle.memory.specs.PlainReading.{leafBit}
-use Rattle.memory.specs.True.{isTrue, clearedMap, blockAt}
+use Rattle.memory.specs.PlainReading.{bitOver}
+use Rattle.memory.specs.True.{isTrueOf, clearedOf, blockAt}
 use Rattle.tracker.specs.declared.Access.{Access}
 use Rattle.tracker.specs.declared.Transfers.{Transfers}
 use Rattle.tracker.specs.declared.Tracker.{Tracker}
@@ -41,18 +41,18 @@ refused c s bytes memory = record { said = no c; state = s; bytes = bytes; memor
 abbrev pub accepted : State → List ℕ → List ℕ → Out
 accepted s bytes memory = record { said = ok; state = s; bytes = bytes; memory = memory; transfers = none }
 
--- "fresh 1, 2": "A fresh memory sets every map byte to 0 and touches nothing else."
+-- "fresh 1, 2": "A fresh memory sets every map byte to 0 and touches nothing else."; "fresh zeroes only top blocks"
 abbrev pub freshTests : Shape → List ℕ → List ℕ → Tests
 freshTests shape bytes memory = (limits shape, 1) ∷ (lengthsRight shape bytes memory, 2) ∷ []
 
 unfoldable pub fresh : ℕ → ℕ → ℕ → List ℕ → List ℕ → Out
 fresh n t l bytes memory =
     let shape = shapeOf n t l in
-    unless (refusal (freshTests shape bytes memory)) (accepted (begun shape) bytes (clearedMap n memory)) (λ c. refused c zeroState bytes memory)
+    unless (refusal (freshTests shape bytes memory)) (accepted (begun shape) bytes (clearedOf (topOf shape) n memory)) (λ c. refused c zeroState bytes memory)
 
 -- "open 1, 2, 3": "Opening changes no byte."
 abbrev pub openTests : Shape → List ℕ → List ℕ → Tests
-openTests shape bytes memory = freshTests shape bytes memory ++ (isTrue (shape .n) memory, 3) ∷ []
+openTests shape bytes memory = freshTests shape bytes memory ++ (isTrueOf (topOf shape) (shape .n) memory, 3) ∷ []
 
 unfoldable pub opened : ℕ → ℕ → ℕ → List ℕ → List ℕ → Out
 opened n t l bytes memory =
@@ -140,16 +140,21 @@ showTests shape k rest = (ltb k (shape .n), 6) ∷ (rest, 7) ∷ []
 unfoldable pub showNo : State → List ℕ → List ℕ → ℕ → ℕ
 showNo s bytes memory k = refusal (stateTests s bytes memory ++ showTests (s .shape) k (allIdle s))
 
--- leaf k's bit, "read in the map block's line if it has one"
-unfoldable pub shownBit : State → List ℕ → List ℕ → ℕ → ℕ
-shownBit s bytes memory k =
-    let j = lineOf (s .lines) (s .shape .l) (s .shape .n + mapBlockOf k) in
-    pick (ltb j (s .shape .l)) (bitAt bytes (blockPlace j + mapByteOf k) (mapBitOf k)) (leafBit (s .shape .n) memory k)
+-- the bit over block k of level e, "read in the map block's line if it has one"
+unfoldable pub shownBit : State → List ℕ → List ℕ → (e k : ℕ) → ℕ
+shownBit s bytes memory e k =
+    let j = lineOf (s .lines) (s .shape .l) (blockOn (suc e) (s .shape .n) (mapBlockOf k)) in
+    pick (ltb j (s .shape .l)) (bitAt bytes (blockPlace j + mapByteOf k) (mapBitOf k)) (bitOver e (s .shape .n) memory k)
+
+-- block k of level e, which is d levels below the top, counts by the bits that are shown: read from the top down
+abbrev pub shownCounts : State → List ℕ → List ℕ → (d e k : ℕ) → Bool
+shownCounts s bytes memory zero e k = true
+shownCounts s bytes memory (suc d) e k = both (shownCounts s bytes memory d (suc e) (mapBlockOf k)) (eqb (shownBit s bytes memory e k) 1)
 
 -- "the 64 in the lines, if a line has it; else, under bit 1 .., the 64 in memory; under bit 0, an empty part of memory. On a refusal it is empty too"
 unfoldable pub show : State → List ℕ → List ℕ → ℕ → List ℕ
 show s bytes memory k =
     let i = lineOf (s .lines) (s .shape .l) k in
     unless (showNo s bytes memory k)
-    (pick (ltb i (s .shape .l)) (lineBytes bytes i) (pick (eqb (shownBit s bytes memory k) 1) (blockAt memory k) []))
+    (pick (ltb i (s .shape .l)) (lineBytes bytes i) (pick (shownCounts s bytes memory (topOf (s .shape)) 0 k) (blockAt memory k) []))
     (λ c. [])

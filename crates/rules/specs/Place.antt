@@ -1,6 +1,6 @@
 -- 01 "The cache": placing a block, bringing one in, writing one back, draining; 02 E4: the copies of each.
 use mathlib.Core.List.{List, [], _∷_, _++_}
-use mathlib.Core.Bool.{Bool, false}
+use mathlib.Core.Bool.{Bool, true, false}
 use Prim.Native.Nat.{ℕ, zero, suc, _*_}
 use lib.Dec.{eqb, ltb, leb}
 use lib.ListN.{length, getD, set}
@@ -95,11 +95,30 @@ bringIn shape b r =
     })
     (record { line = l; shape = shape; rows = r; copies = none }))
 
--- the copies of bringing in
+-- "the leaf goes into its line if it has one, else is placed; changed": block b with these bytes, which are never fetched
+unfoldable pub create : Shape → ℕ → List ℕ → Rows → Brought
+create shape b y r =
+    let l = shape .l in
+    let i = lineOf (r .lines) l b in
+    let p = placeLine shape (r .lines) (r .bytes) in
+    pick (ltb i l) (record { line = i; shape = shape; rows = filled r i b true y; copies = none })
+    (pick (ltb p l)
+    (record {
+      line = p;
+      shape = atHand shape (placeHand shape (r .lines) (r .bytes));
+      rows = filled (withMemory r (placeMemory shape r)) p b true y;
+      copies = tally (placeCopies shape r);
+    })
+    (record { line = l; shape = shape; rows = r; copies = none }))
+
+-- the copies of bringing in, and of creating
 unfoldable pub bringCopies : Shape → ℕ → Rows → List Copy
 bringCopies shape b r =
     pick (ltb (lineOf (r .lines) (shape .l) b) (shape .l)) []
     (pick (ltb (placeLine shape (r .lines) (r .bytes)) (shape .l)) (placeCopies shape r ++ fetch b ∷ []) [])
+
+unfoldable pub createCopies : Shape → ℕ → Rows → List Copy
+createCopies shape b r = pick (ltb (lineOf (r .lines) (shape .l) b) (shape .l)) [] (placeCopies shape r)
 
 -- "Drain writes changed lines to memory, lowest line first, and marks them clean; the lines stay.": the first i lines
 unfoldable pub drained : ℕ → Rows → Rows

@@ -6,8 +6,8 @@ use lib.Dec.{eqb}
 use lib.ListN.{length, getD, replicate}
 use Rattle.laws.specs.Choice.{both}
 use Rattle.geometry.specs.declared.Shape.{Shape}
-use Rattle.geometry.specs.Shape.{shapeOf}
-use Rattle.geometry.specs.TagMemory.{memoryLength, mostTrackers, mostLines}
+use Rattle.geometry.specs.Shape.{shapeOf, topOf}
+use Rattle.geometry.specs.TagMemory.{lengthOf, mostTrackers, mostLines}
 use Rattle.tracker.specs.declared.Tracker.{Tracker}
 use Rattle.tracker.specs.Tracker.{idle}
 
@@ -27,7 +27,7 @@ trackerAt ts x = getD ts x idle
 
 -- "The line bytes are a lent buffer of 64 x L", and memory has its length
 unfoldable pub lengthsRight : Shape → List ℕ → List ℕ → Bool
-lengthsRight shape bytes memory = both (eqb (length bytes) (64 * shape .l)) (eqb (length memory) (memoryLength (shape .n)))
+lengthsRight shape bytes memory = both (eqb (length bytes) (64 * shape .l)) (eqb (length memory) (lengthOf (topOf shape) (shape .n)))
 
 -- "After fresh and open every line is free, every tracker idle, and their other fields zero"
 abbrev pub begun : Shape → State

@@ -9,7 +9,7 @@ use Rattle.tracker.specs.declared.Tracker.{Tracker}
 use Rattle.tracker.specs.declared.Answer.{Answer}
 use Rattle.tracker.specs.declared.Answer.the-variants.{Accepted, Wait, Moved, Read, Done, Same, No}
 use Rattle.tracker.specs.Transfers.{none, plus}
-use Rattle.tracker.specs.Tracker.{idle, isIdle, readOf, writeOf, issued, tick, goesTo, counted}
+use Rattle.tracker.specs.Tracker.{idle, levelOf, asksAt, keepsAt, afterProbe, isIdle, readOf, writeOf, issued, tick, goesTo, counted}
 use Rattle.tracker.specs.Answer.{Said, ok, wait, moved, read, done, same, no, says}
 
 -- the answer that says it
@@ -34,6 +34,18 @@ back (No c) = refl
 
 pub says-one : (a b : Answer) → says a ≡ says b → a ≡ b
 says-one a b e = cc (back a, back b)
+
+pub level-one : (phase : Phase) {r s : ℕ} → r ≡ levelOf phase → s ≡ levelOf phase → r ≡ s
+level-one phase p q = p ∙ sym q
+
+pub asks-at-one : (phase : Phase) (e : ℕ) {r s : Bool} → r ≡ asksAt phase e → s ≡ asksAt phase e → r ≡ s
+asks-at-one phase e p q = p ∙ sym q
+
+pub keeps-at-one : (phase : Phase) (e : ℕ) {r s : Bool} → r ≡ keepsAt phase e → s ≡ keepsAt phase e → r ≡ s
+keeps-at-one phase e p q = p ∙ sym q
+
+pub after-probe-one : (top d : ℕ) {r s : Phase} → r ≡ afterProbe top d → s ≡ afterProbe top d → r ≡ s
+after-probe-one top d p q = p ∙ sym q
 
 pub one-more-one : (k : ℕ) {r s : ℕ} → r ≡ tick k → s ≡ tick k → r ≡ s
 one-more-one k p q = p ∙ sym q

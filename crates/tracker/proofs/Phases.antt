@@ -1,84 +1,104 @@
--- What one column of the table of phases says of another, decided by computing over every phase.
+-- What one column of the table of phases says of another.
 use mathlib.Core.Path.{_≡_, refl}
 use mathlib.Core.Bool.{Bool, true, false}
-use Rattle.laws.specs.Choice.{pick}
-use Rattle.laws.proofs.Choice.{not-both-ways}
+use Prim.Native.Nat.{ℕ, _<_}
+use native.Mathlib.Omega.{arith}
+use lib.Dec.{ltb}
+use borrow.Author.Tests.{lt-ltb, ltb-true}
+use Rattle.laws.specs.Choice.{pick, both}
+use Rattle.laws.proofs.Choice.{not-both-ways, both-true, both-left, both-right, both-false-left}
 use Rattle.tracker.specs.declared.Phase.{Phase}
-use Rattle.tracker.specs.declared.Phase.the-variants.{Idle, Probe, Map, Leaf, Set, Clear}
-use Rattle.tracker.specs.Tracker.{isIdleAt, holdsAt, atFinish}
-
--- a test that holds at every phase from one on, in the order in which an access goes through them
-abbrev fromSet : (Phase → Bool) → Bool
-fromSet f = pick (f Set) (f Clear) false
-
-abbrev fromLeaf : (Phase → Bool) → Bool
-fromLeaf f = pick (f Leaf) (fromSet f) false
-
-abbrev fromMap : (Phase → Bool) → Bool
-fromMap f = pick (f Map) (fromLeaf f) false
-
-abbrev fromProbe : (Phase → Bool) → Bool
-fromProbe f = pick (f Probe) (fromMap f) false
-
-abbrev atEach : (Phase → Bool) → Bool
-atEach f = pick (f Idle) (fromProbe f) false
-
-first-of : (b c : Bool) → pick b c false ≡ true → b ≡ true
-first-of true c h = refl
-first-of false c h = h
-
-rest-of : (b c : Bool) → pick b c false ≡ true → c ≡ true
-rest-of true c h = h
-rest-of false c h = absurd (not-both-ways h refl)
-
-at-each : (f : Phase → Bool) → atEach f ≡ true → (p : Phase) → f p ≡ true
-at-each f h = at
-  where
-    probe : fromProbe f ≡ true
-    probe = rest-of (f Idle) (fromProbe f) h
-
-    map : fromMap f ≡ true
-    map = rest-of (f Probe) (fromMap f) probe
-
-    leaf : fromLeaf f ≡ true
-    leaf = rest-of (f Map) (fromLeaf f) map
-
-    set : fromSet f ≡ true
-    set = rest-of (f Leaf) (fromSet f) leaf
-
-    at : (p : Phase) → f p ≡ true
-    at Idle = first-of (f Idle) (fromProbe f) h
-    at Probe = first-of (f Probe) (fromMap f) probe
-    at Map = first-of (f Map) (fromLeaf f) map
-    at Leaf = first-of (f Leaf) (fromSet f) leaf
-    at Set = first-of (f Set) (f Clear) set
-    at Clear = rest-of (f Set) (f Clear) set
-
-implied : (a b : Bool) → pick a b true ≡ true → a ≡ true → b ≡ true
-implied true b h e = h
-implied false b h e = absurd (not-both-ways e refl)
-
-denied : (a b : Bool) → pick a (pick b false true) true ≡ true → a ≡ true → b ≡ false
-denied true true h e = absurd (not-both-ways h refl)
-denied true false h e = refl
-denied false b h e = absurd (not-both-ways e refl)
-
--- where a holds, b holds: one computation for every phase
-pub when : (a b : Phase → Bool) → atEach (λ p. pick (a p) (b p) true) ≡ true → (p : Phase) → a p ≡ true → b p ≡ true
-when a b h p = implied (a p) (b p) (at-each (λ q. pick (a q) (b q) true) h p)
-
--- where a holds, b does not
-pub when-not : (a b : Phase → Bool) → atEach (λ p. pick (a p) (pick (b p) false true) true) ≡ true → (p : Phase) → a p ≡ true → b p ≡ false
-when-not a b h p = denied (a p) (b p) (at-each (λ q. pick (a q) (pick (b q) false true) true) h p)
+use Rattle.tracker.specs.declared.Phase.the-variants.{Idle, Probe, Top, Under, Set, Clear}
+use Rattle.tracker.specs.Tracker.{isIdleAt, holdsAt, atFinish, levelOf, asksAt, keepsAt, finishAt}
 
 pub idle-loose : (p : Phase) → isIdleAt p ≡ true → holdsAt p ≡ false
-idle-loose = when-not isIdleAt holdsAt refl
+idle-loose Idle h = refl
+idle-loose (Probe d) h = refl
+idle-loose Top h = refl
+idle-loose (Under d) h = absurd (not-both-ways h refl)
+idle-loose (Set d) h = absurd (not-both-ways h refl)
+idle-loose (Clear d) h = absurd (not-both-ways h refl)
 
 pub holds-busy : (p : Phase) → holdsAt p ≡ true → isIdleAt p ≡ false
-holds-busy = when-not holdsAt isIdleAt refl
-
-pub idle-unfinished : (p : Phase) → isIdleAt p ≡ true → atFinish p ≡ false
-idle-unfinished = when-not isIdleAt atFinish refl
+holds-busy Idle h = absurd (not-both-ways h refl)
+holds-busy (Probe d) h = refl
+holds-busy Top h = refl
+holds-busy (Under d) h = refl
+holds-busy (Set d) h = refl
+holds-busy (Clear d) h = refl
 
 pub finish-holds : (p : Phase) → atFinish p ≡ true → holdsAt p ≡ true
-finish-holds = when atFinish holdsAt refl
+finish-holds Idle h = absurd (not-both-ways h refl)
+finish-holds (Probe d) h = absurd (not-both-ways h refl)
+finish-holds Top h = absurd (not-both-ways h refl)
+finish-holds (Under d) h = refl
+finish-holds (Set d) h = refl
+finish-holds (Clear d) h = refl
+
+pub idle-unfinished : (p : Phase) → isIdleAt p ≡ true → atFinish p ≡ false
+idle-unfinished Idle h = refl
+idle-unfinished (Probe d) h = refl
+idle-unfinished Top h = refl
+idle-unfinished (Under d) h = refl
+idle-unfinished (Set d) h = absurd (not-both-ways h refl)
+idle-unfinished (Clear d) h = absurd (not-both-ways h refl)
+
+module _ (p : Phase) (e : ℕ) where
+  -- what a state must have in a line is kept there
+  pub asks-keeps : asksAt p e ≡ true → keepsAt p e ≡ true
+  unfolding asksAt keepsAt
+  asks-keeps h = both-true _ _ (both-left _ _ h) (below p (ltb-true _ _ (both-right _ _ h)))
+    where
+      below : (q : Phase) → levelOf q < e → ltb (pick (atFinish q) 0 (levelOf q)) e ≡ true
+      below Idle l = lt-ltb _ _ l
+      below (Probe d) l = lt-ltb _ _ l
+      below Top l = lt-ltb _ _ l
+      below (Under d) l = lt-ltb _ _ l
+      below (Set d) l = lt-ltb 0 e (omega arith)
+      below (Clear d) l = lt-ltb 0 e (omega arith)
+
+  pub keeps-holds : keepsAt p e ≡ true → holdsAt p ≡ true
+  unfolding keepsAt
+  keeps-holds h = both-left _ _ h
+
+  pub asks-holds : asksAt p e ≡ true → holdsAt p ≡ true
+  unfolding asksAt
+  asks-holds h = both-left _ _ h
+
+  pub asks-above : asksAt p e ≡ true → levelOf p < e
+  unfolding asksAt
+  asks-above h = ltb-true _ _ (both-right _ _ h)
+
+  pub asks-is : holdsAt p ≡ true → levelOf p < e → asksAt p e ≡ true
+  unfolding asksAt
+  asks-is h l = both-true _ _ h (lt-ltb _ _ l)
+
+  -- who does not hold keeps nothing, and asks for nothing
+  module _ (h : holdsAt p ≡ false) where
+    pub loose-keeps : keepsAt p e ≡ false
+    unfolding keepsAt
+    loose-keeps = both-false-left _ _ h
+
+    pub loose-asks : asksAt p e ≡ false
+    unfolding asksAt
+    loose-asks = both-false-left _ _ h
+
+-- Under d keeps and asks for the levels above d; Finish d keeps all from 1 on, and asks for those above d
+module _ (d e : ℕ) where
+  pub keeps-under : keepsAt (Under d) e ≡ ltb d e
+  unfolding keepsAt both
+  keeps-under = refl
+
+  pub asks-under : asksAt (Under d) e ≡ ltb d e
+  unfolding asksAt both
+  asks-under = refl
+
+  pub keeps-finish : (s : Bool) → keepsAt (finishAt s d) e ≡ ltb 0 e
+  unfolding keepsAt both
+  keeps-finish true = refl
+  keeps-finish false = refl
+
+  pub asks-finish : (s : Bool) → asksAt (finishAt s d) e ≡ ltb d e
+  unfolding asksAt both
+  asks-finish true = refl
+  asks-finish false = refl

@@ -1,9 +1,10 @@
 -- A tracker's fields as a step changes them: 01 "One step of a tracker".
 use mathlib.Core.Bool.{Bool, true, false}
 use Prim.Native.Nat.{ℕ, suc, min}
-use Rattle.laws.specs.Choice.{pick}
+use lib.Dec.{ltb}
+use Rattle.laws.specs.Choice.{pick, both}
 use Rattle.tracker.specs.declared.Phase.{Phase}
-use Rattle.tracker.specs.declared.Phase.the-variants.{Idle, Probe, Map, Leaf, Set, Clear}
+use Rattle.tracker.specs.declared.Phase.the-variants.{Idle, Probe, Top, Under, Set, Clear}
 use Rattle.tracker.specs.declared.Access.{Access}
 use Rattle.tracker.specs.declared.Transfers.{Transfers}
 use Rattle.tracker.specs.declared.Tracker.{Tracker}
@@ -13,23 +14,26 @@ use Rattle.tracker.specs.Transfers.{none, plus}
 abbrev pub idle : Tracker
 idle = record { phase = Idle; write = false; bottom = false; group = 0; value = 0; turns = 0; transfers = none }
 
--- what a tracker is at each phase: at rest; holding its map block ("Leaf or Finish"); at Finish, its moment behind it
+-- what a tracker is at each phase: at rest; holding its top block ("from the Top step to the end"); at Finish, its moment behind it; and the level that the phase is of
 pub record Standing : Type 0 where
   pub rests : Bool
   pub holds : Bool
   pub finishes : Bool
+  pub level : ℕ
 
-abbrev standing : Bool → Bool → Bool → Standing
-standing rests holds finishes = record { rests = rests; holds = holds; finishes = finishes }
+abbrev standing : Bool → Bool → Bool → ℕ → Standing
+standing rests holds finishes level = record { rests = rests; holds = holds; finishes = finishes; level = level }
 
---                       rests holds finishes
+-- Probe d looks at its block of level d; Top asks for its top block; Under d works on its block of level d, under the bit over it; Set d and Clear d put the
+-- bit over its block of level d. 01's Map is Top, its Leaf is Under 0, its Finish Set 0 and Clear 0.
+--                             rests holds finishes level
 abbrev pub stands : Phase → Standing
-stands Idle = standing true false false
-stands Probe = standing false false false
-stands Map = standing false false false
-stands Leaf = standing false true false
-stands Set = standing false true true
-stands Clear = standing false true true
+stands Idle = standing true false false 0
+stands (Probe d) = standing false false false d
+stands Top = standing false false false 0
+stands (Under d) = standing false true false d
+stands (Set d) = standing false true true d
+stands (Clear d) = standing false true true d
 
 abbrev pub isIdleAt : Phase → Bool
 isIdleAt p = stands p .rests
@@ -40,12 +44,31 @@ holdsAt p = stands p .holds
 abbrev pub atFinish : Phase → Bool
 atFinish p = stands p .finishes
 
+abbrev pub levelOf : Phase → ℕ
+levelOf p = stands p .level
+
+-- the levels, 1 and up, whose block a state must have in a line: those above the phase's own. "at Leaf and Finish map, whole asks for that line"
+unfoldable pub asksAt : Phase → ℕ → Bool
+asksAt p e = both (holdsAt p) (ltb (levelOf p) e)
+
+-- those whose line isn't replaced, if there is one: "From its Map step on, a holder's map line isn't replaced"
+unfoldable pub keepsAt : Phase → ℕ → Bool
+keepsAt p e = both (holdsAt p) (ltb (pick (atFinish p) 0 (levelOf p)) e)
+
 abbrev pub isIdle : Tracker → Bool
 isIdle t = isIdleAt (t .phase)
 
--- "Probe (bottom-up only, first)"; top-down an access begins at Map
+-- "Probe (bottom-up only, first)"; top-down an access begins at Top
 abbrev pub firstPhase : Bool → Phase
-firstPhase bottom = pick bottom Probe Map
+firstPhase bottom = pick bottom (Probe 0) Top
+
+-- "Steps: Probe leaf, Probe map (bottom-up), Top": after Probe d
+abbrev pub afterProbe : (top d : ℕ) → Phase
+afterProbe top d = pick (ltb (suc d) top) (Probe (suc d)) Top
+
+-- Finish, by what it does to the bit
+abbrev pub finishAt : (set : Bool) → ℕ → Phase
+finishAt set d = pick set (Set d) (Clear d)
 
 -- "An access is a read or a write of value v, of group g, top-down or bottom-up."
 abbrev pub readOf : (bottom : Bool) (g : ℕ) → Access

@@ -2,18 +2,77 @@
 // Structs and enums by value; no public function has a `requires`.
 ghost use mathlib.Core.Path.{_≡_};
 ghost use Prim.Native.Nat.{_+_, min};
-ghost use Rattle.tracker.specs.Tracker.{idle, firstPhase, readOf, writeOf, issued, at, goesTo, counted, tick, isIdle};
+ghost use Rattle.tracker.specs.Tracker.{idle, levelOf, asksAt, keepsAt, firstPhase, afterProbe, readOf, writeOf, issued, at, goesTo, counted, tick, isIdle};
 ghost use Rattle.tracker.specs.Transfers.{none, mostTransfers, plus};
 ghost use Rattle.laws.specs.Choice.{pick};
 
-// Where a tracker stands. Finish is two: Set and Clear, by what it does to the bit.
+// Where a tracker stands. Probe and Under are of a level: on 01's device Under(0) is its Leaf, and Top its Map. Finish is two, Set and Clear, by what it
+// does to the bit over a block of a level.
 pub enum Phase {
     Idle,
-    Probe,
-    Map,
-    Leaf,
-    Set,
-    Clear,
+    Probe(u8),
+    Top,
+    Under(u8),
+    Set(u8),
+    Clear(u8),
+}
+
+impl Phase {
+    // The level that the phase is of.
+    pub fn level(self) -> u8
+        ensures { λ r. ⌜ r ≡ levelOf self ⌝ }
+    {
+        match self {
+            Phase::Idle => 0,
+            Phase::Probe(d) => d,
+            Phase::Top => 0,
+            Phase::Under(d) => d,
+            Phase::Set(d) => d,
+            Phase::Clear(d) => d,
+        }
+    }
+
+    // The block of level e, 1 and up, must be in a line.
+    pub fn asks_at(self, e: u8) -> bool
+        ensures { λ r. ⌜ r ≡ asksAt self e ⌝ }
+    {
+        match self {
+            Phase::Idle => false,
+            Phase::Probe(_) => false,
+            Phase::Top => false,
+            Phase::Under(d) => d < e,
+            Phase::Set(d) => d < e,
+            Phase::Clear(d) => d < e,
+        }
+    }
+
+    // The line of the block of level e, 1 and up, is not replaced.
+    pub fn keeps_at(self, e: u8) -> bool
+        ensures { λ r. ⌜ r ≡ keepsAt self e ⌝ }
+    {
+        match self {
+            Phase::Idle => false,
+            Phase::Probe(_) => false,
+            Phase::Top => false,
+            Phase::Under(d) => d < e,
+            Phase::Set(_) => 0 < e,
+            Phase::Clear(_) => 0 < e,
+        }
+    }
+
+    // After Probe of level d: Probe of the level above it where that is below the top, else Top.
+    pub fn after_probe(top: u8, d: u8) -> Phase
+        ensures { λ r. ⌜ r ≡ afterProbe top d ⌝ }
+    {
+        if top <= d {
+            return Phase::Top;
+        }
+        if d + 1 < top {
+            Phase::Probe(d + 1)
+        } else {
+            Phase::Top
+        }
+    }
 }
 
 // A read, or a write of a value, of a group, top-down or bottom-up. The value of a read means nothing.
@@ -106,7 +165,7 @@ impl Transfers {
 fn first_phase(bottom: bool) -> Phase
     ensures { λ r. ⌜ r ≡ firstPhase bottom ⌝ }
 {
-    if bottom { Phase::Probe } else { Phase::Map }
+    if bottom { Phase::Probe(0) } else { Phase::Top }
 }
 
 // The value of a write; a read has none, and keeps 0.
@@ -212,11 +271,11 @@ impl Tracker {
         let phase = self.phase;
         match phase {
             Phase::Idle => true,
-            Phase::Probe => false,
-            Phase::Map => false,
-            Phase::Leaf => false,
-            Phase::Set => false,
-            Phase::Clear => false,
+            Phase::Probe(_) => false,
+            Phase::Top => false,
+            Phase::Under(_) => false,
+            Phase::Set(_) => false,
+            Phase::Clear(_) => false,
         }
     }
 }

@@ -6,20 +6,19 @@ use Prim.Native.Nat.{ℕ}
 use Rattle.laws.specs.Refusal.{refusal}
 use Rattle.laws.specs.Scan.{all}
 use Rattle.geometry.specs.declared.Shape.{Shape}
-use Rattle.geometry.specs.Shape.{shapeOf}
 use Rattle.tracker.specs.declared.Access.{Access}
 use Rattle.tracker.specs.declared.Tracker.{Tracker}
 use Rattle.tracker.specs.Tracker.{isIdle}
 use Rattle.rules.specs.State.{trackerAt}
-use Rattle.rules.specs.Whole.{limits, whole}
+use Rattle.rules.specs.Whole.{whole}
 use Rattle.rules.specs.Calls.{issueTests, stepTests, drainTests, showTests}
-use Rattle.whole.specs.Parts.{stateOf}
+use Rattle.whole.specs.Parts.{stateOf, limitsOf}
 
 one : {A : Type 0} {d : A} (a b : A) → a ≡ d → b ≡ d → a ≡ b
 one a b p q = p ∙ sym q
 
-pub one-limits : (n t l : ℕ) (a b : Bool) → a ≡ limits (shapeOf n t l) → b ≡ limits (shapeOf n t l) → a ≡ b
-one-limits n t l = one
+pub one-limits : (top n t l : ℕ) (a b : Bool) → a ≡ limitsOf top n t l → b ≡ limitsOf top n t l → a ≡ b
+one-limits top n t l = one
 
 module _ (shape : Shape) (us : List Tracker) where
   pub one-whole : (lines : List ℕ) (a b : Bool) → a ≡ whole (stateOf shape lines us) → b ≡ whole (stateOf shape lines us) → a ≡ b

@@ -6,31 +6,33 @@ use tracker::Access;
 use tracker::Phase;
 use tracker::Tracker;
 ghost use mathlib.Core.Path.{_≡_};
-ghost use Prim.Native.Nat.{_<_, _≤_, min};
+ghost use mathlib.Core.Bool.{true};
+ghost use mathlib.Core.List.{List};
+ghost use Prim.Native.Nat.{suc, _<_, _≤_, min};
 ghost use lib.Dec.{leb};
 ghost use lib.ListN.{length, getD};
 ghost use Rattle.laws.specs.Choice.{both, implies, no};
 ghost use Rattle.laws.specs.Refusal.{refusal};
 ghost use Rattle.laws.specs.Scan.{all};
-ghost use Rattle.geometry.specs.Shape.{shapeOf};
-ghost use Rattle.geometry.specs.TagMemory.{mostLeaves, mostTrackers};
-ghost use Rattle.tracker.specs.Tracker.{holdsAt, isIdle};
+ghost use Rattle.geometry.specs.Shape.{topOf};
+ghost use Rattle.geometry.specs.TagMemory.{groups, inLimitsOf, mostTrackers};
+ghost use Rattle.tracker.specs.Tracker.{isIdle};
 ghost use Rattle.line.specs.Word.{used};
 ghost use Rattle.rules.specs.State.{trackerAt};
-ghost use Rattle.rules.specs.Whole.{limits, holds, lineWhole, phaseWhole, trackerWhole, whole};
+ghost use Rattle.rules.specs.Whole.{keeps, lineWhole, phaseWhole, levelWhole, trackerWhole, whole};
 ghost use Rattle.rules.specs.Calls.{meets, meetsNone, issueTests, stepTests, drainTests, showTests};
-ghost use Rattle.whole.specs.Parts.{stateOf, holderWhole, heldByIt};
+ghost use Rattle.whole.specs.Parts.{stateOf, limitsOf, holderWhole};
 
-// n, T and L are in the limits.
-pub fn limits(n: u64, t: u64, l: u64) -> bool
-    ensures { λ r. ⌜ r ≡ limits (shapeOf n t l) ⌝ }
+// The top level, n, T and L are in the limits.
+pub fn limits(top: u8, n: u64, t: u64, l: u64) -> bool
+    ensures { λ r. ⌜ r ≡ limitsOf top n t l ⌝ }
 {
+    if !both(1 <= t, t <= Geometry::MOST_TRACKERS as u64) {
+        return false;
+    }
     both(
-        Geometry::in_limits(n),
-        both(
-            both(1 <= t, t <= Geometry::MOST_TRACKERS as u64),
-            both(t < l, l <= Geometry::MOST_LINES as u64),
-        ),
+        Geometry::in_limits_of(top, n),
+        both(top as u64 * t < l, l <= Geometry::MOST_LINES as u64),
     )
 }
 
@@ -40,34 +42,27 @@ fn both(a: bool, b: bool) -> bool
     if a { b } else { false }
 }
 
-// A tracker at this phase holds its map block.
-fn holds_at(phase: Phase) -> bool
-    ensures { λ r. ⌜ r ≡ holdsAt phase ⌝ }
+// A tracker keeps block b, of the levels up to this top, over n leaves.
+fn keeps(top: u8, n: u32, t: Tracker, b: u32) -> bool
+    ensures { λ r. ⌜ r ≡ keeps top n t b ⌝ }
 {
-    match phase {
-        Phase::Idle => false,
-        Phase::Probe => false,
-        Phase::Map => false,
-        Phase::Leaf => true,
-        Phase::Set => true,
-        Phase::Clear => true,
+    let mut e: u8 = 0;
+    while e < top {
+        e += 1;
+        let phase = t.phase;
+        if both(
+            phase.keeps_at(e),
+            Geometry::block_over(e, n, t.group) == b as u64,
+        ) {
+            return true;
+        }
     }
+    false
 }
 
-// A tracker of a memory of n leaves holds block b.
-fn holds(n: u32, t: Tracker, b: u32) -> bool
-    ensures { λ r. ⌜ r ≡ holds n t b ⌝ }
-{
-    let phase = t.phase;
-    both(
-        holds_at(phase),
-        Geometry::map_number(n, Geometry::leaf_of(t.group)) == b as u64,
-    )
-}
-
-// A line that names a holder names one of the T trackers, and it holds the line's block.
+// A line that names a holder names one of the T trackers, and it keeps the line's block.
 fn holder_whole(shape: Shape, w: u32, trackers: [Tracker; Geometry::MOST_TRACKERS]) -> bool
-    requires { ⌜ shape .t ≤ mostTrackers ⌝ }
+    requires { ⌜ (shape .t ≤ mostTrackers) ⌝ }
     ensures { λ r. ⌜ r ≡ holderWhole shape trackers w ⌝ }
 {
     let h = line::holder(w);
@@ -79,10 +74,10 @@ fn holder_whole(shape: Shape, w: u32, trackers: [Tracker; Geometry::MOST_TRACKER
     }
     let x = (h - 1) as usize;
     let tracker = trackers[x];
-    holds(shape.n, tracker, line::block_of(w))
+    keeps(shape.top(), shape.n, tracker, line::block_of(w))
 }
 
-// Line i of L, which the row has: its block exists and has no other line, and its holder holds it.
+// Line i of L, which the row has: its block exists and has no other line, and its holder keeps it.
 fn line_whole(
     shape: Shape,
     lines: &[u32],
@@ -97,7 +92,7 @@ fn line_whole(
         return true;
     }
     let b = line::block_of(w);
-    if Geometry::blocks(shape.n) <= b as u64 {
+    if Geometry::blocks_of(shape.top(), shape.n) <= b as u64 {
         return false;
     }
     both(
@@ -123,42 +118,61 @@ fn lines_whole(shape: Shape, lines: &[u32], trackers: [Tracker; Geometry::MOST_T
     true
 }
 
-// A tracker at Probe is bottom-up and one at Finish is a write.
-fn phase_whole(phase: Phase, write: bool, bottom: bool) -> bool
-    ensures { λ r. ⌜ r ≡ phaseWhole write bottom phase ⌝ }
+// A tracker at Probe is bottom-up and one at Finish is a write; a phase is of a level below the top.
+fn phase_whole(top: u8, phase: Phase, write: bool, bottom: bool) -> bool
+    ensures { λ r. ⌜ r ≡ phaseWhole top write bottom phase ⌝ }
 {
     match phase {
         Phase::Idle => true,
-        Phase::Probe => bottom,
-        Phase::Map => true,
-        Phase::Leaf => true,
-        Phase::Set => write,
-        Phase::Clear => write,
+        Phase::Probe(d) => both(bottom, d < top),
+        Phase::Top => true,
+        Phase::Under(d) => d < top,
+        Phase::Set(d) => both(write, d < top),
+        Phase::Clear(d) => both(write, d < top),
     }
 }
 
-// The map block of group g is in one of L lines, which names tracker x as its holder.
-fn held_by_it(shape: Shape, lines: &[u32], g: u32, x: usize) -> bool
-    requires { ⌜ (shape .n ≤ mostLeaves) × (shape .l ≤ length (now lines)) × (x < mostTrackers) ⌝ }
-    ensures { λ r. ⌜ r ≡ heldByIt shape (now (lines .entry)) g x ⌝ }
+// Tracker x, which is t, and its block of level e: it is in one of L lines if a state must have it there, and a line that the tracker keeps names it.
+fn level_whole(shape: Shape, lines: &[u32], t: Tracker, x: usize, e: u8) -> bool
+    requires { ⌜ (inLimitsOf (topOf shape) (shape .n) ≡ true) × (t .group < groups (shape .n)) × (e ≤ topOf shape) × (shape .l ≤ length (now lines)) × (x < mostTrackers) ⌝ }
+    ensures { λ r. ⌜ ((ts : List Tracker) → r ≡ levelWhole (stateOf shape (now (lines .entry)) ts) x t e) ⌝ }
 {
-    let b = Geometry::map_number(shape.n, Geometry::leaf_of(g)) as u32;
+    let phase = t.phase;
+    if !phase.keeps_at(e) {
+        return true;
+    }
     let l = shape.l;
-    let i = line::line_of(lines, l, b);
+    let i = line::line_of(lines, l, Geometry::block_over(e, shape.n, t.group) as u32);
     if l <= i {
-        return false;
+        return !phase.asks_at(e);
     }
     line::holder(lines[i]) as usize == x + 1
 }
 
-// Tracker x: its group exists, its phase is as it must be, and it is the holder of the map block that it holds.
+// The same of each level from 1 to the top.
+fn levels_whole(shape: Shape, lines: &[u32], t: Tracker, x: usize) -> bool
+    requires { ⌜ (inLimitsOf (topOf shape) (shape .n) ≡ true) × (t .group < groups (shape .n)) × (shape .l ≤ length (now lines)) × (x < mostTrackers) ⌝ }
+    ensures { λ r. ⌜ ((ts : List Tracker) → r ≡ all (λ e. levelWhole (stateOf shape (now (lines .entry)) ts) x t (suc e)) (topOf shape)) ⌝ }
+{
+    let top = shape.top();
+    let mut e: u8 = 0;
+    while e < top {
+        e += 1;
+        if !level_whole(shape, lines, t, x, e) {
+            return false;
+        }
+    }
+    true
+}
+
+// Tracker x: its group exists, its phase is as it must be, and so are the lines of its blocks.
 fn tracker_whole(
     shape: Shape,
     lines: &[u32],
     trackers: [Tracker; Geometry::MOST_TRACKERS],
     x: usize,
 ) -> bool
-    requires { ⌜ (shape .n ≤ mostLeaves) × (shape .l ≤ length (now lines)) × (x < mostTrackers) ⌝ }
+    requires { ⌜ (inLimitsOf (topOf shape) (shape .n) ≡ true) × (shape .l ≤ length (now lines)) × (x < mostTrackers) ⌝ }
     ensures { λ r. ⌜ r ≡ trackerWhole (stateOf shape (now (lines .entry)) trackers) x ⌝ }
 {
     let t = trackers[x];
@@ -169,19 +183,15 @@ fn tracker_whole(
         return false;
     }
     let phase = t.phase;
-    if holds_at(phase) {
-        both(
-            phase_whole(phase, t.write, t.bottom),
-            held_by_it(shape, lines, t.group, x),
-        )
-    } else {
-        phase_whole(phase, t.write, t.bottom)
-    }
+    both(
+        phase_whole(shape.top(), phase, t.write, t.bottom),
+        levels_whole(shape, lines, t, x),
+    )
 }
 
 // Each of the T trackers.
 fn trackers_whole(shape: Shape, lines: &[u32], trackers: [Tracker; Geometry::MOST_TRACKERS]) -> bool
-    requires { ⌜ (shape .n ≤ mostLeaves) × (shape .t ≤ mostTrackers) × (shape .l ≤ length (now lines)) ⌝ }
+    requires { ⌜ (inLimitsOf (topOf shape) (shape .n) ≡ true) × (shape .t ≤ mostTrackers) × (shape .l ≤ length (now lines)) ⌝ }
     ensures { λ r. ⌜ r ≡ all (trackerWhole (stateOf shape (now (lines .entry)) trackers)) (shape .t) ⌝ }
 {
     let end = shape.t as usize;
@@ -233,7 +243,7 @@ pub fn whole(shape: Shape, lines: &[u32], trackers: [Tracker; Geometry::MOST_TRA
     ensures { λ r. ⌜ r ≡ whole (stateOf shape (now (lines .entry)) trackers) ⌝ }
 {
     let l = shape.l;
-    if !limits(shape.n as u64, shape.t as u64, l as u64) {
+    if !limits(shape.top(), shape.n as u64, shape.t as u64, l as u64) {
         return false;
     }
     if lines.len() < l {

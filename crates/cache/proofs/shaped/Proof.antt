@@ -2,14 +2,15 @@
 use borrow.Author.Needs.{needs}
 use native.Mathlib.Omega.{arith}
 use Rattle.geometry.specs.Shape.{shapeOf}
-use Rattle.rules.proofs.Whole.{n-most, t-most}
+use Rattle.rules.proofs.Whole.{t-most}
+use Rattle.cache.proofs.Refusals.{n-few}
 use Rattle.cache.proofs.shaped.Statement.{statement}
 use Rattle.cache.proofs.shaped.Tie as tie
 
 cast-start : tie.Need-cast-start
 cast-start c =
     let a = c .args in
-    omega (arith, n-most (shapeOf (a .n) (a .t) (a .l)) (c .pre))
+    omega (arith, n-few (a .n) (a .t) (a .l) (c .pre))
 
 cast-start-2 : tie.Need-cast-start-2
 cast-start-2 c =

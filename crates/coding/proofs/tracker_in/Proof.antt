@@ -3,6 +3,7 @@ use borrow.Author.Needs.{needs}
 use mathlib.Core.Path.{refl}
 use native.Mathlib.Omega.{arith}
 use Rattle.coding.specs.Words.{trackerIn}
+use Rattle.coding.proofs.Trackers.{coded-below}
 use Rattle.coding.proofs.Turns.{narrow}
 use Rattle.coding.proofs.tracker_in.Statement.{statement}
 use Rattle.coding.proofs.tracker_in.Tie as tie
@@ -14,7 +15,10 @@ shared-slice-read-phase-of : tie.Need-shared-slice-read-phase-of
 shared-slice-read-phase-of c = search needs
 
 phase-of-requires : tie.Need-phase-of-requires
-phase-of-requires c κs = search needs
+phase-of-requires c κs =
+    let at-entry = c .before .before in
+    let a = at-entry .args in
+    coded-below _ (narrow (a .words .now) (a .at) (at-entry .pre .1) .phase)
 
 add-t7 : tie.Need-add-t7
 add-t7 c = search needs

@@ -1,9 +1,11 @@
 -- `shown_at` meets its contract, way by way: refused; in a line; under bit 0; in memory.
 use borrow.Author.Needs.{needs}
 use mathlib.Core.Path.{_≡_, sym, ap, _∙_}
+use mathlib.Core.Bool.{true}
 use Prim.Native.Nat.{_*_, _≤_, _<_}
 use lib.ListN.{length}
-use Rattle.geometry.specs.TagMemory.{mostLeaves, mostLines, memoryLength}
+use Rattle.geometry.specs.Shape.{topOf}
+use Rattle.geometry.specs.TagMemory.{inLimitsOf, mostLines}
 use Rattle.rules.specs.Calls.{showNo}
 use Rattle.cache.specs.Seen.{seen}
 use Rattle.cache.proofs.Refusals.{show-in}
@@ -30,7 +32,7 @@ module _ (c : tie.Else1) where
   accepted : showNo (seen (at-start .args .t1)) (at-start .args .bytes .now) (at-start .args .memory .now) (at-start .args .k) ≡ 0
   accepted = omega (arith, c .before .show-refusal .ensures)
 
-  within : (at-start .args .k < at-start .args .t1 .shape .n) × (at-start .args .t1 .shape .n ≤ mostLeaves) × (at-start .args .t1 .shape .l ≤ mostLines) × (length (at-start .args .bytes .now) ≡ 64 * at-start .args .t1 .shape .l) × (length (at-start .args .memory .now) ≡ memoryLength (at-start .args .t1 .shape .n))
+  within : (at-start .args .k < at-start .args .t1 .shape .n) × (inLimitsOf (topOf (at-start .args .t1 .shape)) (at-start .args .t1 .shape .n) ≡ true) × (at-start .args .t1 .shape .l ≤ mostLines) × (length (at-start .args .bytes .now) ≡ 64 * at-start .args .t1 .shape .l) × (64 * at-start .args .t1 .shape .n ≤ length (at-start .args .memory .now))
   within = show-in (seen (at-start .args .t1)) (at-start .args .bytes .now) (at-start .args .memory .now) (at-start .args .k) accepted
 
 show-refusal-requires : tie.Need-show-refusal-requires

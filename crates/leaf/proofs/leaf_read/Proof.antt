@@ -28,7 +28,9 @@ returns : tie.Need-returns
 returns c =
     let at-bring-in = c .before .before .before .before .before .before .before .before in
     let at-leaf-of = at-bring-in .before .before .before .before in
-    by-rule (leafRead-none _ _ _ _ _ _ _ (at-leaf-of .leaf-of .ensures) _ _ _ _ _ _ (at-bring-in .bring-in .ensures) (omega arith)) (c .refuses .ensures _ _ _)
+    let at-start = at-leaf-of .before .before .before .before in
+    let a = at-start .args in
+    by-rule (leafRead-none (a .own) (a .shape) _ (a .t) (a .lines .now) (a .bytes .now) (a .memory .now) (at-start .pre .0) (at-leaf-of .leaf-of .ensures) _ _ _ _ _ _ (at-bring-in .bring-in .ensures) (omega arith)) (c .refuses .ensures _ _ _)
 
 group-in-requires : tie.Need-group-in-requires
 group-in-requires c κs = search needs
@@ -51,11 +53,12 @@ same-length-6 c = search needs
 returns-2 : tie.Need-returns-2
 returns-2 c =
     let at-let-go = c .before .before .before in
-    let at-group-in = at-let-go .before .before in
+    let at-group-in = at-let-go .before .before .before in
     let at-bring-in = at-group-in .before .before .before .before .before .before .before .before .before in
     let at-leaf-of = at-bring-in .before .before .before .before in
-    by-rule (leafRead-ends _ _ _ _ _ _ _ (at-leaf-of .leaf-of .ensures) _ _ _ _ _ _ (at-bring-in .bring-in .ensures) _ _ (omega arith) (at-group-in .group-in .ensures) (at-let-go .let-go .ensures))
-    (c .ends-read .ensures _ _ _)
+    let at-start = at-leaf-of .before .before .before .before in
+    let a = at-start .args in
+    by-rule (leafRead-ends (a .own) (a .shape) _ (a .t) (a .lines .now) (a .bytes .now) (a .memory .now) (at-start .pre .0) (at-leaf-of .leaf-of .ensures) _ _ _ _ _ _ (at-bring-in .bring-in .ensures) _ (omega arith) (at-group-in .group-in .ensures) _ (at-let-go .let-go .ensures)) (c .ends-read .ensures _ _ _)
 
 pub leaf-read-spec : {M : Type 1} → statement M
 leaf-read-spec = tie.close (tie.spec leaf-of-requires bring-in-requires refuses-requires same-length same-length-2 same-length-3 returns group-in-requires let-go-requires ends-read-requires same-length-4 same-length-5 same-length-6 returns-2)

@@ -4,7 +4,7 @@ use mathlib.Core.Path.{_∙_}
 use lib.ListN.{length-set}
 use Rattle.geometry.specs.TagMemory.{byteOf}
 use Rattle.outcome.proofs.Rule.{by-rule}
-use Rattle.leaf.proofs.Ways.{putIn-clear, putIn-done}
+use Rattle.leaf.proofs.Ways.{putIn-clears, putIn-ends}
 use Rattle.leaf.proofs.put_in.Statement.{statement}
 use Rattle.leaf.proofs.put_in.Tie as tie
 
@@ -56,7 +56,8 @@ returns c =
     let at-all-zero = c .before .before in
     let at-put-group = at-all-zero .before .before .before .before .before in
     let at-byte-of = at-put-group .before in
-    λ m. by-rule (putIn-clear _ _ _ _ _ _ _ _ _ m (at-byte-of .byte-of .ensures) (at-put-group .put-group .ensures) _ (at-all-zero .all-zero .ensures) (c .before .if1 .taken)) (c .goes .ensures _ _ m)
+    let a = at-byte-of .before .before .before .before .args in
+    λ m. by-rule (putIn-clears (a .own) _ _ _ _ _ _ _ _ m (at-byte-of .byte-of .ensures) (at-put-group .put-group .ensures) _ (at-all-zero .all-zero .ensures) (c .before .if1 .taken)) (c .goes .ensures _ _ m)
 
 leaf-of-requires : tie.Need-leaf-of-requires
 leaf-of-requires c κs = search needs
@@ -79,7 +80,7 @@ ends-done-requires c κs = search needs
 same-length-3 : tie.Need-same-length-3
 same-length-3 c =
     let at-let-go = c .before .before .before in
-    at-let-go .let-go .kept .0 ∙ simp length-set
+    at-let-go .let-go .kept .1 .1 .1 .0 ∙ simp length-set
 
 same-length-4 : tie.Need-same-length-4
 same-length-4 c = search needs
@@ -87,14 +88,14 @@ same-length-4 c = search needs
 returns-2 : tie.Need-returns-2
 returns-2 c =
     let at-let-go = c .before .before .before in
-    let at-word = at-let-go .before .before in
+    let at-word = at-let-go .before .before .before in
     let at-leaf-of = at-word .before in
     let at-if1 = at-leaf-of .before in
     let at-all-zero = at-if1 .before in
     let at-put-group = at-all-zero .before .before .before .before .before in
     let at-byte-of = at-put-group .before in
-    λ m. by-rule (putIn-done _ _ _ _ _ _ _ _ _ m (at-byte-of .byte-of .ensures) (at-put-group .put-group .ensures) _ (at-all-zero .all-zero .ensures) _ _ _ (at-if1 .if1 .left) (at-leaf-of .leaf-of .ensures) (at-word .word .ensures) (at-let-go .let-go .ensures))
-    (c .ends-done .ensures _ _ m)
+    let a = at-byte-of .before .before .before .before .args in
+    λ m. by-rule (putIn-ends (a .own) _ _ _ _ _ _ _ _ m (at-byte-of .byte-of .ensures) (at-put-group .put-group .ensures) _ (at-all-zero .all-zero .ensures) _ _ _ (at-if1 .if1 .left) (at-leaf-of .leaf-of .ensures) (at-word .word .ensures) (at-let-go .let-go .ensures)) (c .ends-done .ensures _ _ m)
 
 pub put-in-spec : {M : Type 1} → statement M
 put-in-spec = tie.close (tie.spec mul-at byte-of-requires add-put-group put-group-requires add-all-zero sub-all-zero part-all-zero-start part-all-zero-end all-zero-requires mul-lines slice-write-lines goes-requires same-length same-length-2 returns leaf-of-requires word-requires mul-lines-2 slice-write-lines-2 let-go-requires ends-done-requires same-length-3 same-length-4 returns-2)

@@ -1,13 +1,9 @@
 -- `fetch` meets its contract: no line to take, or the placed line filled from memory.
 use borrow.Author.Needs.{needs}
 use native.Mathlib.Omega.{arith}
-use Rattle.placing.proofs.Ways.{line-is, placed-lines, placed-bytes, fetched-none, fetched-is}
+use Rattle.placing.proofs.Ways.{line-is, placed-lines, fetched-none, fetched-is}
 use Rattle.placing.proofs.fetch.Statement.{statement}
 use Rattle.placing.proofs.fetch.Tie as tie
-
--- the places that are spoken of, each from the one after it
-abbrev before-block-place : tie.After-block-place → tie.After-place
-before-block-place c = c .before .before .before .before .before
 
 place-requires : tie.Need-place-requires
 place-requires c κs = search needs
@@ -35,27 +31,10 @@ block-place-requires c κs = search needs
 read-block-requires : tie.Need-read-block-requires
 read-block-requires c κs = search needs
 
-word-requires : tie.Need-word-requires
-word-requires c κs = search needs
-
-mul-lines : tie.Need-mul-lines
-mul-lines c =
-    let at-place = before-block-place (c .before .before) in
+fill-requires : tie.Need-fill-requires
+fill-requires c κs =
+    let at-place = c .before .before .before .before .before .before .before .before .before in
     omega (arith, placed-lines _ _ _ _ (line-is (at-place .place .ensures)) (omega arith))
-
-slice-write-lines : tie.Need-slice-write-lines
-slice-write-lines c =
-    let at-place = before-block-place (c .before .before) in
-    omega (arith, placed-lines _ _ _ _ (line-is (at-place .place .ensures)) (omega arith))
-
-mul-write-block : tie.Need-mul-write-block
-mul-write-block c =
-    let at-place = before-block-place (c .before .before .before) in
-    let at-start = at-place .before .before .before .before .before .before .before in
-    omega (arith, placed-bytes _ _ _ _ (line-is (at-place .place .ensures)) (omega arith), at-start .good .1 .0)
-
-write-block-requires : tie.Need-write-block-requires
-write-block-requires c κs = search needs
 
 plus-requires : tie.Need-plus-requires
 plus-requires c κs = search needs
@@ -71,12 +50,11 @@ same-length-6 c = search needs
 
 returns-2 : tie.Need-returns-2
 returns-2 c =
-    let at-write-block = c .before .before .before .before .before in
-    let at-word = at-write-block .before .before .before in
-    let at-read-block = at-word .before in
+    let at-fill = c .before .before .before .before .before .before .before in
+    let at-read-block = at-fill .before .before .before .before in
     let at-block-place = at-read-block .before in
-    let at-place = before-block-place at-block-place in
-    fetched-is _ _ _ _ _ _ _ _ _ _ _ _ _ _ (at-place .place .ensures) (omega arith) (at-word .word .ensures) (at-block-place .block-place .ensures) (at-read-block .read-block .ensures) (at-write-block .write-block .ensures) (c .plus .ensures)
+    let at-place = at-block-place .before .before .before .before .before in
+    fetched-is _ _ _ _ _ _ _ _ _ _ _ _ _ _ (at-place .place .ensures) (omega arith) (at-block-place .block-place .ensures) (at-read-block .read-block .ensures) (at-fill .fill .ensures _) (c .plus .ensures)
 
 pub fetch-spec : {M : Type 1} → statement M
-fetch-spec = tie.close (tie.spec place-requires none-requires same-length same-length-2 same-length-3 returns block-place-requires read-block-requires word-requires mul-lines slice-write-lines mul-write-block write-block-requires plus-requires same-length-4 same-length-5 same-length-6 returns-2)
+fetch-spec = tie.close (tie.spec place-requires none-requires same-length same-length-2 same-length-3 returns block-place-requires read-block-requires fill-requires plus-requires same-length-4 same-length-5 same-length-6 returns-2)

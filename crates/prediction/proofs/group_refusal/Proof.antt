@@ -21,7 +21,7 @@ returns c =
     c .before .lent-refusal .ensures ∙ sym (refused-before (a .n) (a .c) (a .tags) (a .bits) (groups (a .n)) (a .g) (λ q. c .if1 .taken (c .before .lent-refusal .ensures ∙ q)))
 
 cast-groups : tie.Need-cast-groups
-cast-groups c = omega (arith, inLimits-most (c .before .before .args .n) (ready c .limits))
+cast-groups c = omega (arith, inLimits-most 1 (c .before .before .args .n) (ready c .limits))
 
 groups-requires : tie.Need-groups-requires
 groups-requires c κs = search needs

@@ -17,7 +17,7 @@ limits : (c : tie.Else1) → inLimits (c .before .before .args .n) ≡ true
 limits c = sym (c .before .in-limits .ensures) ∙ not-false _ (c .if1 .left)
 
 most : (c : tie.Else1) → c .before .before .args .n ≤ 262144
-most c = inLimits-most (c .before .before .args .n) (limits c)
+most c = inLimits-most 1 (c .before .before .args .n) (limits c)
 
 run : (c : tie.Else2) → isRun (c .before .before .before .before .args .c) ≡ true
 run c = sym (c .before .is-run .ensures) ∙ not-false _ (c .if2 .left)

@@ -22,7 +22,7 @@ returns c =
     c .before .lent-refusal .ensures ∙ sym (refused-before (a .n) (a .c) (a .tags) (a .bits) (runs (a .n) (a .c)) (a .r) (λ q. c .if1 .taken (c .before .lent-refusal .ensures ∙ q)))
 
 cast-runs : tie.Need-cast-runs
-cast-runs c = omega (arith, inLimits-most (c .before .before .args .n) (ready c .limits))
+cast-runs c = omega (arith, inLimits-most 1 (c .before .before .args .n) (ready c .limits))
 
 cast-runs-2 : tie.Need-cast-runs-2
 cast-runs-2 c = omega (arith, isRun-within (c .before .before .args .c) (ready c .run) .1)

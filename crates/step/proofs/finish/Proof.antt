@@ -1,29 +1,43 @@
--- `finish` meets its contract: the bit, the map line's word, the ending.
-use borrow.Author.Needs.{needs}
-use Rattle.geometry.specs.TagMemory.{mapByteOf}
+-- `finish` meets its contract: the top block is in no line, or the bit, the line's word and the ending.
+use native.Mathlib.Omega.{arith}
+use Rattle.own.proofs.Ways.{owns-found}
 use Rattle.outcome.proofs.Rule.{by-rule}
-use Rattle.step.proofs.Ways.{finish-is}
+use Rattle.step.proofs.Ways.{finish-none, finish-is}
+use borrow.Author.Needs.{needs}
 use Rattle.step.proofs.finish.Statement.{statement}
 use Rattle.step.proofs.finish.Tie as tie
 
-leaf-of-requires : tie.Need-leaf-of-requires
-leaf-of-requires c κs = search needs
+find-requires : tie.Need-find-requires
+find-requires c κs = search needs
 
-mul-put-bit : tie.Need-mul-put-bit
-mul-put-bit c = search needs
+top-requires : tie.Need-top-requires
+top-requires c κs = search needs
 
-map-byte-of-requires : tie.Need-map-byte-of-requires
-map-byte-of-requires c κs = search needs
+at-requires : tie.Need-at-requires
+at-requires c κs = search needs
 
-add-put-bit : tie.Need-add-put-bit
-unfolding mapByteOf
-add-put-bit c = search needs
+refuses-requires : tie.Need-refuses-requires
+refuses-requires c κs = search needs
 
-map-bit-of-requires : tie.Need-map-bit-of-requires
-map-bit-of-requires c κs = search needs
+same-length : tie.Need-same-length
+same-length c = search needs
+
+returns : tie.Need-returns
+returns c =
+    let at-at = c .before .before .before in
+    let at-top = at-at .before in
+    let at-find = at-top .before in
+    let at-start = at-find .before .before .before .before in
+    let a = at-start .args in
+    let o = owns-found (a .shape) (a .t .group) (a .lines .now) (at-find .find .ensures) (at-start .pre .0) in
+    λ m. by-rule (finish-none (a .shape) (a .set) (a .d) (at-at .at .result) (a .t) (a .lines .now) (a .bytes .now) m (at-find .find .result) o (rw (at-top .top .ensures) at (at-at .at .ensures)) (at-start .pre .1) (omega arith))
+    (c .refuses .ensures _ _ m)
 
 put-bit-requires : tie.Need-put-bit-requires
 put-bit-requires c κs = search needs
+
+change-requires : tie.Need-change-requires
+change-requires c κs = search needs
 
 let-go-requires : tie.Need-let-go-requires
 let-go-requires c κs = search needs
@@ -34,21 +48,42 @@ none-requires c κs = search needs
 ends-done-requires : tie.Need-ends-done-requires
 ends-done-requires c κs = search needs
 
-same-length : tie.Need-same-length
-same-length c = search needs
-
 same-length-2 : tie.Need-same-length-2
 same-length-2 c = search needs
 
-returns : tie.Need-returns
-returns c =
+same-length-3 : tie.Need-same-length-3
+same-length-3 c = search needs
+
+returns-2 : tie.Need-returns-2
+returns-2 c =
     let at-let-go = c .before .before .before .before in
-    let at-put-bit = at-let-go .before .before .before .before in
-    let at-map-bit-of = at-put-bit .before in
-    let at-map-byte-of = at-map-bit-of .before in
-    let at-leaf-of = at-map-byte-of .before .before in
-    λ m. by-rule (finish-is _ _ _ _ _ _ _ _ _ _ m _ (c .before .none .ensures) (at-leaf-of .leaf-of .ensures) (at-map-byte-of .map-byte-of .ensures) (at-map-bit-of .map-bit-of .ensures) (at-let-go .let-go .ensures) (at-put-bit .put-bit .ensures))
+    let at-change = at-let-go .before .before .before .before in
+    let at-put-bit = at-change .before .before .before .before in
+    let at-at = at-put-bit .before .before .before .before in
+    let at-top = at-at .before in
+    let at-find = at-top .before in
+    let at-start = at-find .before .before .before .before in
+    let a = at-start .args in
+    let o = owns-found (a .shape) (a .t .group) (a .lines .now) (at-find .find .ensures) (at-start .pre .0) in
+    λ m. by-rule (finish-is (a .shape) (a .set) (a .d) (at-at .at .result) (a .t) (a .lines .now) (a .bytes .now) m (at-find .find .result) o (rw (at-top .top .ensures) at (at-at .at .ensures)) (at-start .pre .1)
+    (omega arith) (c .before .none .ensures) (at-change .change .ensures) (at-let-go .let-go .ensures) (at-put-bit .put-bit .ensures))
     (c .ends-done .ensures _ _ m)
 
 pub finish-spec : {M : Type 1} → statement M
-finish-spec = tie.close (tie.spec leaf-of-requires mul-put-bit map-byte-of-requires add-put-bit map-bit-of-requires put-bit-requires let-go-requires none-requires ends-done-requires same-length same-length-2 returns)
+finish-spec =
+    tie.close
+    (tie.spec
+    find-requires
+    top-requires
+    at-requires
+    refuses-requires
+    same-length
+    returns
+    put-bit-requires
+    change-requires
+    let-go-requires
+    none-requires
+    ends-done-requires
+    same-length-2
+    same-length-3
+    returns-2)

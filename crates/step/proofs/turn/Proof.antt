@@ -6,7 +6,7 @@ use borrow.Author.Tests.{not-true, not-false}
 use Rattle.rules.specs.Step.{fit}
 use Rattle.placing.specs.Lines.{rows}
 use Rattle.outcome.proofs.Rule.{by-rule}
-use Rattle.step.proofs.Ways.{fit-n, fit-l, fit-x, lengths-l, turn-broken, turn-lengths, turn-steps}
+use Rattle.step.proofs.Ways.{fit-n, fit-g, fit-d, fit-l, fit-x, lengths-l, turn-broken, turn-lengths, turn-steps}
 use Rattle.step.proofs.turn.Statement.{statement}
 use Rattle.step.proofs.turn.Tie as tie
 
@@ -59,7 +59,7 @@ by-phase-requires c κs =
     let a = at-fit .before .before .before .before .before .args in
     let r = rows (a .lines .now) (a .bytes .now) (a .memory .now) in
     let f : fit (a .shape) (a .x) (a .t) r ≡ true = sym (at-fit .fit .ensures _ _) ∙ not-false _ (at-if1 .if1 .left) in
-    (fit-n _ _ _ r f, fit-x _ _ _ r f, fit-l _ _ _ r f, lengths-l (a .shape) _ (a .memory .now) (sym (at-lengths-right .lengths-right .ensures) ∙ not-false _ (at-if2 .if2 .left)))
+    (fit-n _ _ _ r f, fit-g _ _ _ r f, fit-d _ _ _ r f, fit-x _ _ _ r f, fit-l _ _ _ r f, lengths-l (a .shape) _ (a .memory .now) (sym (at-lengths-right .lengths-right .ensures) ∙ not-false _ (at-if2 .if2 .left)))
 
 same-length-5 : tie.Need-same-length-5
 same-length-5 c = search needs

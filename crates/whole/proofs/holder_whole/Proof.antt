@@ -33,19 +33,23 @@ mul-tracker c = search needs
 array-copy-out-tracker : tie.Need-array-copy-out-tracker
 array-copy-out-tracker c = search needs
 
+top-requires : tie.Need-top-requires
+top-requires c κs = search needs
+
 block-of-requires : tie.Need-block-of-requires
 block-of-requires c κs = search needs
 
-holds-requires : tie.Need-holds-requires
-holds-requires c κs = search needs
+keeps-requires : tie.Need-keeps-requires
+keeps-requires c κs = search needs
 
 returns-3 : tie.Need-returns-3
 returns-3 c =
     let at-block = c .before in
-    let at-holder = at-block .before .before .before .before .before in
+    let at-top = at-block .before in
+    let at-holder = at-top .before .before .before .before .before in
     let at-start = at-holder .before in
     let a = at-start .args in
-    rw (c .holds .ensures, at-block .block-of .ensures, at-holder .holder .ensures, holder-is (a .shape) (a .w) (a .t3) (omega arith) (omega arith)) refl
+    rw (c .keeps .ensures, at-block .block-of .ensures, at-top .top .ensures, at-holder .holder .ensures, holder-is (a .shape) (a .w) (a .t3) (omega arith) (omega arith)) refl
 
 pub holder-whole-spec : {M : Type 1} → statement M
 holder-whole-spec =
@@ -58,6 +62,7 @@ holder-whole-spec =
     cast-x
     mul-tracker
     array-copy-out-tracker
+    top-requires
     block-of-requires
-    holds-requires
+    keeps-requires
     returns-3)

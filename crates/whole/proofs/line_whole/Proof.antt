@@ -21,17 +21,22 @@ returns c =
 block-of-requires : tie.Need-block-of-requires
 block-of-requires c κs = search needs
 
-blocks-requires : tie.Need-blocks-requires
-blocks-requires c κs = search needs
+top-requires : tie.Need-top-requires
+top-requires c κs = search needs
+
+blocks-of-requires : tie.Need-blocks-of-requires
+blocks-of-requires c κs = search needs
 
 cast-if2 : tie.Need-cast-if2
 cast-if2 c = search needs
 
 returns-2 : tie.Need-returns-2
 returns-2 c =
-    let at-start = c .before .before .before .before .before .before in
+    let at-blocks = c .before in
+    let at-top = at-blocks .before in
+    let at-start = at-top .before .before .before .before .before in
     let a = at-start .args in
-    sym (line-none (a .shape) (a .lines .now) (a .trackers) (a .i) (omega arith) (omega arith))
+    sym (line-none (a .shape) (a .lines .now) (a .trackers) (a .i) (omega arith) (omega (arith, rw (at-top .top .ensures) at (at-blocks .blocks-of .ensures))))
 
 line-of-requires : tie.Need-line-of-requires
 line-of-requires c κs = search needs
@@ -46,10 +51,12 @@ returns-3 : tie.Need-returns-3
 returns-3 c =
     let at-holder = c .before in
     let at-line = at-holder .before in
-    let at-block = at-line .before .before .before in
+    let at-blocks = at-line .before .before in
+    let at-top = at-blocks .before in
+    let at-block = at-top .before in
     let at-start = at-block .before .before .before .before in
     let a = at-start .args in
-    rw (c .both .ensures, at-holder .holder-whole .ensures, at-line .line-of .ensures, at-block .block-of .ensures) (sym (line-used (a .shape) (a .lines .now) (a .trackers) (a .i) (omega arith) (omega arith)))
+    rw (c .both .ensures, at-holder .holder-whole .ensures, at-line .line-of .ensures, at-block .block-of .ensures) (sym (line-used (a .shape) (a .lines .now) (a .trackers) (a .i) (omega arith) (omega (arith, rw (at-top .top .ensures) at (at-blocks .blocks-of .ensures)))))
 
 pub line-whole-spec : {M : Type 1} → statement M
 line-whole-spec =
@@ -59,7 +66,8 @@ line-whole-spec =
     shared-slice-read-w
     returns
     block-of-requires
-    blocks-requires
+    top-requires
+    blocks-of-requires
     cast-if2
     returns-2
     line-of-requires

@@ -23,7 +23,9 @@ loop-holds : tie.Need-loop-holds Inv-loop μ-loop
 loop-holds c = (omega arith, all-zero _)
 
 tracker-whole-requires : tie.Need-tracker-whole-requires Inv-loop μ-loop
-tracker-whole-requires c κs = omega arith
+tracker-whole-requires c κs =
+    let at-start = c .before .before .before .before in
+    (at-start .pre .0, omega arith, omega arith)
 
 add-x : tie.Need-add-x Inv-loop μ-loop
 add-x c = omega arith

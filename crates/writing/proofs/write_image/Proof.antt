@@ -24,7 +24,7 @@ returns c = let a = c .before .before .before .before .args in
     refused (a .n) (a .memory .now) (a .output .now) 0 (refusal-1 _ _ _ (sym (c .before .in-limits .ensures) ∙ not-true _ (c .if1 .taken)))
 
 cast-leaves : tie.Need-cast-leaves
-cast-leaves c = omega (arith, inLimits-most _ (sym (c .before .in-limits .ensures) ∙ not-false _ (c .if1 .left)))
+cast-leaves c = omega (arith, inLimits-most 1 _ (sym (c .before .in-limits .ensures) ∙ not-false _ (c .if1 .left)))
 
 memory-length-requires : tie.Need-memory-length-requires
 memory-length-requires c κs = search needs
@@ -48,7 +48,7 @@ returns-3 c = let a = c .before .before .before .before .before .before .before 
 
 count-marked-requires : tie.Need-count-marked-requires
 count-marked-requires c κs = (
-  omega (arith, inLimits-most _ (sym (c .before .before .before .before .before .in-limits .ensures) ∙ not-false _ (c .before .before .before .before .if1 .left))),
+  omega (arith, inLimits-most 1 _ (sym (c .before .before .before .before .before .in-limits .ensures) ∙ not-false _ (c .before .before .before .before .if1 .left))),
   omega (arith, c .before .before .before .memory-length .ensures),
   sym (c .before .is-true .ensures) ∙ not-false _ (c .if3 .left),
 )
@@ -77,7 +77,7 @@ returns-4 c = let a = c .before .before .before .before .before .before .before 
 
 put-image-requires : tie.Need-put-image-requires
 put-image-requires c κs = let a = c .before .before .before .before .before .before .before .before .before .before .before .args in
-    let h = inLimits-most _ (sym (c .before .before .before .before .before .before .before .before .in-limits .ensures) ∙ not-false _ (c .before .before .before .before .before .before .before .if1 .left)) in
+    let h = inLimits-most 1 _ (sym (c .before .before .before .before .before .before .before .before .in-limits .ensures) ∙ not-false _ (c .before .before .before .before .before .before .before .if1 .left)) in
     let l : length (a .memory .now) ≡ memoryLength (a .n) = (omega (arith, c .before .before .before .before .before .before .memory-length .ensures)) in
     (search needs, l, omega arith, omega (arith, c .before .before .count-marked .ensures, length-below (a .n) (a .memory .now) (a .n)), c .before .before .count-marked .ensures)
 

@@ -1,19 +1,43 @@
--- `shown_bit` meets its contract: by whether the map block has a line.
-use borrow.Author.Needs.{needs}
-use mathlib.Core.Path.{refl, sym, _∙_}
+-- `shown_bit` meets its contract: by whether the block above has a line.
+use mathlib.Core.Path.{sym}
+use Prim.Native.Nat.{suc}
 use native.Mathlib.Omega.{arith}
-use Rattle.geometry.specs.TagMemory.{mapByteOf, mapBlockOf}
+use Rattle.geometry.specs.Shape.{topOf}
+use Rattle.geometry.proofs.Places.{mapBlockOf-few, mapByteOf-lt}
+use Rattle.geometry.proofs.Levels.{base-rises, blocksOf-most}
 use Rattle.cache.specs.Seen.{seen}
 use Rattle.cache.proofs.Refusals.{bit-lined, bit-memory}
+use borrow.Author.Needs.{needs}
 use Rattle.cache.proofs.State.shown_bit.Statement.{statement}
 use Rattle.cache.proofs.State.shown_bit.Tie as tie
 
-map-number-requires : tie.Need-map-number-requires
-map-number-requires c κs = search needs
+blocks-of-requires : tie.Need-blocks-of-requires
+blocks-of-requires c κs = search needs
+
+map-block-of-requires : tie.Need-map-block-of-requires
+map-block-of-requires c κs = search needs
+
+cast-above : tie.Need-cast-above
+cast-above c = search needs
+
+add-above : tie.Need-add-above
+add-above c =
+    let at-blocks = c .before in
+    let at-start = at-blocks .before .before .before .before in
+    let a = at-start .args in
+    let n = a .t1 .shape .n in
+    let top = topOf (a .t1 .shape) in
+    omega (arith, at-blocks .blocks-of .ensures, c .map-block-of .ensures, mapBlockOf-few (a .k), base-rises n (suc (a .e)) (suc top) (omega arith), blocksOf-most top n (at-start .pre .0))
 
 cast-line-of : tie.Need-cast-line-of
-unfolding mapBlockOf
-cast-line-of c = search needs
+cast-line-of c =
+    let at-map = c .before .before .before in
+    let at-blocks = at-map .before in
+    let at-start = at-blocks .before .before .before .before in
+    let a = at-start .args in
+    let n = a .t1 .shape .n in
+    let top = topOf (a .t1 .shape) in
+    omega (arith, at-blocks .blocks-of .ensures, at-map .map-block-of .ensures, mapBlockOf-few (a .k), base-rises n (suc (a .e)) (suc top) (omega arith), blocksOf-most top n (at-start .pre .0))
 
 line-of-requires : tie.Need-line-of-requires
 line-of-requires c κs = search needs
@@ -25,8 +49,7 @@ map-byte-of-requires : tie.Need-map-byte-of-requires
 map-byte-of-requires c κs = search needs
 
 add-bit-at : tie.Need-add-bit-at
-unfolding mapByteOf
-add-bit-at c = search needs
+add-bit-at c = omega (arith, c .map-byte-of .ensures, mapByteOf-lt (c .before .before .before .before .before .before .before .before .before .before .before .args .k))
 
 map-bit-of-requires : tie.Need-map-bit-of-requires
 map-bit-of-requires c κs = search needs
@@ -36,21 +59,42 @@ bit-at-requires c κs = search needs
 
 returns : tie.Need-returns
 returns c =
-    let at-map-byte-of = c .before .before in
-    let at-line-of = at-map-byte-of .before .before in
-    let at-map-number = at-line-of .before in
-    let a = at-map-number .before .before .before .before .before .before .before .args in
-    rw (c .bit-at .ensures, c .before .map-bit-of .ensures, at-map-byte-of .map-byte-of .ensures) (sym (bit-lined (seen (a .t1)) (a .bytes .now) (a .memory .now) (a .k) (at-line-of .line-of .result) (at-line-of .line-of .ensures ∙ rw (at-map-number .map-number .ensures) refl) (omega arith)))
+    let at-bit = c .before in
+    let at-byte = at-bit .before in
+    let at-line = at-byte .before .before in
+    let at-map = at-line .before .before .before .before in
+    let at-blocks = at-map .before in
+    let a = at-blocks .before .before .before .before .args in
+    rw (c .bit-at .ensures, at-bit .map-bit-of .ensures, at-byte .map-byte-of .ensures)
+    (sym (bit-lined (seen (a .t1)) (a .bytes .now) (a .memory .now) (a .e) (a .k) (at-line .line-of .result) (rw (at-blocks .blocks-of .ensures, at-map .map-block-of .ensures) at (at-line .line-of .ensures)) (omega arith)))
 
-leaf-bit-requires : tie.Need-leaf-bit-requires
-leaf-bit-requires c κs = search needs
+bit-over-requires : tie.Need-bit-over-requires
+bit-over-requires c κs = search needs
 
 returns-2 : tie.Need-returns-2
 returns-2 c =
-    let at-line-of = c .before .before in
-    let at-map-number = at-line-of .before in
-    let a = at-map-number .before .before .before .before .before .before .before .args in
-    rw (c .leaf-bit .ensures) (sym (bit-memory (seen (a .t1)) (a .bytes .now) (a .memory .now) (a .k) (at-line-of .line-of .result) (at-line-of .line-of .ensures ∙ rw (at-map-number .map-number .ensures) refl) (omega arith)))
+    let at-line = c .before .before in
+    let at-map = at-line .before .before .before .before in
+    let at-blocks = at-map .before in
+    let a = at-blocks .before .before .before .before .args in
+    rw (c .bit-over .ensures)
+    (sym (bit-memory (seen (a .t1)) (a .bytes .now) (a .memory .now) (a .e) (a .k) (at-line .line-of .result) (rw (at-blocks .blocks-of .ensures, at-map .map-block-of .ensures) at (at-line .line-of .ensures)) (omega arith)))
 
 pub shown-bit-spec : {M : Type 1} → statement M
-shown-bit-spec = tie.close (tie.spec map-number-requires cast-line-of line-of-requires mul-bit-at map-byte-of-requires add-bit-at map-bit-of-requires bit-at-requires returns leaf-bit-requires returns-2)
+shown-bit-spec =
+    tie.close
+    (tie.spec
+    blocks-of-requires
+    map-block-of-requires
+    cast-above
+    add-above
+    cast-line-of
+    line-of-requires
+    mul-bit-at
+    map-byte-of-requires
+    add-bit-at
+    map-bit-of-requires
+    bit-at-requires
+    returns
+    bit-over-requires
+    returns-2)
