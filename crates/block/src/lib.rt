@@ -1,5 +1,7 @@
 // Blocks, numbers of four bytes, groups, bits and zero bytes in lent rows of bytes: 01 "The tag memory".
 // No public function has a `requires`: a read of what is not there gives zero, a write of it changes nothing.
+#![tactic(auto)]
+
 ghost use Rattle.std.specs.Prelude.{◌≡◌, ◌+◌, ◌*◌, ◌^◌, ◌≤◌, ◌<◌, length, get_or, replicate};
 ghost use Rattle.laws.specs.Choice.{pick};
 ghost use Rattle.laws.specs.Bytes.{part, splice, fits, put_w, value, bytes, number_at};

@@ -1,10 +1,12 @@
 // 01 "The tag memory": the limits and the address rules, as a type of their own; and the shape of a cache over such a memory.
 // No public function has a `requires`: the number of a leaf, a group or a block is 32 bits wide, and places are counted in 64.
+#![tactic(auto)]
+
 ghost use Rattle.std.specs.Prelude.{◌≡◌, ◌+◌, ◌≤◌};
 ghost use Rattle.geometry.specs.Shape.{shape_of, at_hand, below_top, top_of};
 ghost use Rattle.geometry.specs.TagMemory.{leaf_of, byte_of, groups, most_leaves_of, in_limits_of, in_limits, map_block_of, map_byte_of, map_bit_of, index, map_blocks, base, block_over, blocks_of, length_of, memory_length, block_place, group_place, map_place};
 
-#[derive(Drop)]
+#[derive(Clone, Copy)]
 pub struct Geometry {}
 
 impl Geometry {
@@ -204,7 +206,7 @@ impl Geometry {
 }
 
 // T trackers and L lines over n leaves, and the hand.
-#[derive(Drop)]
+#[derive(Clone, Copy)]
 pub struct Shape {
     pub n: u32,
     pub t: u32,

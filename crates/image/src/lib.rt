@@ -1,5 +1,7 @@
 // The image test: 01 "Archive image" and the refusals 10 and 11, of versions 1 and 2 (02 E2). The definitions stand in `form`.
 // No public function has a `requires`.
+#![tactic(auto)]
+
 ghost use Rattle.std.specs.Prelude.{◌≡◌, true, ◌*◌, ◌/◌, ◌%◌, ◌-◌, ◌≤◌, ◌<◌, length, replicate, eqb};
 ghost use Rattle.laws.specs.Choice.{both, either};
 ghost use Rattle.laws.specs.Bytes.{put_w};

@@ -1,5 +1,7 @@
 // The definitions and laws that every crate cites: lists of bytes, numbers as bytes, bits, scans. They stand in specs/ and proofs/.
 // Here are the tests that are put together in straight lines. No public function has a `requires`.
+#![tactic(auto)]
+
 ghost use Rattle.std.specs.Prelude.{◌≡◌};
 ghost use Rattle.laws.specs.Choice.{both, either};
 

@@ -1,5 +1,7 @@
 // 01 "One step of a tracker": the steps on a leaf, Probe and Leaf, on rows that are lent.
 // No public function has a `requires`: where the rows are not of L lines, the step is refused.
+#![tactic(auto)]
+
 ghost use Rattle.std.specs.Prelude.{◌≡◌, List, ℕ, ◌+◌, ◌*◌, ◌≤◌, ◌<◌, ltb, length};
 ghost use Rattle.laws.specs.Choice.{both};
 ghost use Rattle.rules.specs.Place.{rows_fit};

@@ -1,5 +1,7 @@
 // 01 "The cache": a line as one number, and which line has a block, is free, or is the one to give up.
 // No public function has a `requires`: a line that the row does not have reads as 0, which is free.
+#![tactic(auto)]
+
 ghost use Rattle.std.specs.Prelude.{◌≡◌, min};
 ghost use Rattle.line.specs.Word.{block_of, changed, holder, held, has, word, held_by, cleaned};
 ghost use Rattle.line.specs.Find.{line_of, lowest_free, loose_from, victim, after};

@@ -1,5 +1,7 @@
 // The tag memory on lent bytes: 01 "The tag memory". Plain reading, the true test, and clearing the map.
 // No public function has a `requires`: a byte that is not there reads as zero, and a refusal names what was wrong.
+#![tactic(auto)]
+
 ghost use Rattle.std.specs.Prelude.{◌≡◌, ◌+◌, ◌-◌, ◌*◌, ◌≤◌, ◌<◌, length};
 ghost use Rattle.laws.specs.Refusal.{refusal};
 ghost use Rattle.geometry.specs.TagMemory.{count, base, block_place};

@@ -1,5 +1,7 @@
 // What a step leaves beside the rows, and the ways in which a step ends, goes on, waits or is refused: 01 "One step of a tracker".
 // No public function has a `requires`, and none touches the rows: each promise holds of any.
+#![tactic(auto)]
+
 ghost use Rattle.tracker.specs.Answer.{says, read, done, same};
 ghost use Rattle.rules.specs.Step.{ends, goes, waits, refuses, turns_of};
 ghost use Rattle.outcome.specs.Steps.{OnAnyRows};

@@ -1,5 +1,7 @@
 // 01 "One step of a tracker": the lines of the blocks over a tracker's group, its own: where they are, the bit that one of them has, letting them go.
 // No public function has a `requires`: where there is no such device no line is found, and a line that the rows do not have is none.
+#![tactic(auto)]
+
 ghost use Rattle.std.specs.Prelude.{◌≡◌};
 ghost use Rattle.laws.specs.Choice.{pick};
 ghost use Rattle.geometry.specs.Shape.{top_of};
@@ -12,7 +14,7 @@ use geometry::{Geometry, Shape};
 use tracker::{Phase, Tracker};
 
 // The own lines of levels 1 and 2: no device has more levels above its leaves.
-#[derive(Drop)]
+#[derive(Clone, Copy)]
 pub struct Own {
     pub one: usize,
     pub two: usize,

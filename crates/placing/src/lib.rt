@@ -1,5 +1,7 @@
 // 01 "The cache" on rows that are lent: placing a block, bringing one in, draining.
 // No public function has a `requires`: where the rows are not of L lines, no line is taken and nothing changes.
+#![tactic(auto)]
+
 ghost use Rattle.std.specs.Prelude.{◌≡◌, List, ℕ, ◌+◌, ◌*◌, ◌≤◌, ◌<◌, eqb, length};
 ghost use Rattle.rules.specs.Copies.{tally};
 ghost use Rattle.rules.specs.Place.{rows_fit, written_back, back_of, filled, bring_in, create};

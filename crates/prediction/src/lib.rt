@@ -1,5 +1,7 @@
 // 02, E13 "Prediction bits": one bit for a run of c groups, over lent tags and bits.
 // No public function has a `requires`. Each answers the value, or 0, or REFUSED plus the refusal; refused, all lent bytes stay as they came.
+#![tactic(auto)]
+
 ghost use Rattle.std.specs.Prelude.{◌≡◌, ◌+◌, ◌≤◌, ◌<◌, min, length};
 ghost use Rattle.laws.specs.Choice.{pick};
 ghost use Rattle.laws.specs.Refusal.{refusal};

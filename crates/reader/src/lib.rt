@@ -1,5 +1,7 @@
 // Reading an image one record at a time: 01 "Archive image", the reader that keeps the lent image together with its place.
 // No public function has a `requires`: an image need not be tested, and a place is any number.
+#![tactic(auto)]
+
 ghost use Rattle.std.specs.Prelude.{◌≡◌, true, ◌+◌, ◌≤◌, [], length};
 ghost use Rattle.laws.specs.Choice.{pick};
 ghost use Rattle.laws.specs.Bytes.{part};

@@ -1,5 +1,7 @@
 // Restoring a memory from an image: 01 "Archive image", "Restoring fills all of memory: recorded leaves and their bits, zeros elsewhere".
 // No public function has a `requires`.
+#![tactic(auto)]
+
 ghost use Rattle.std.specs.Prelude.{◌≡◌, ◌+◌, ◌*◌, ◌/◌, ◌≤◌, ◌<◌, length};
 ghost use Rattle.geometry.specs.TagMemory.{memory_length};
 ghost use Rattle.form.specs.Test.{whole_blocks, record_in, record_at, recorded_in};

@@ -55,7 +55,7 @@ tally-none = refl
 pub backed-++ : (l : ℕ) (r : Rows) (m : List ℕ) (xs bs : List ℕ) → backed l r m (xs ++ bs) ≡ backed l r (backed l r m xs) bs
 unfolding backed
 backed-++ l r m [] bs = refl
-backed-++ l r m (b ∷ xs) bs = backed-++ l r _ xs bs
+backed-++ l r m (b ∷ xs) bs = backed-++ l r (put_w 64 m (block_place b) (line_bytes r.bytes (line_of r.lines l b))) xs bs
 
 backs-fetch : (cs : List Copy) (b : ℕ) → backs (cs ++ fetch b ∷ []) ≡ backs cs
 unfolding backs

@@ -1,5 +1,7 @@
 // 01 "The replay program": a line of a script, taken for what it asks.
 // No public function has a `requires`.
+#![tactic(auto)]
+
 ghost use Rattle.std.specs.Prelude.{◌≡◌, ◌∷◌, ◌≤◌, ◌<◌, ◌^◌, eqb, length, get_or};
 ghost use Rattle.laws.specs.Choice.{pick, both};
 ghost use Rattle.laws.specs.Scan.{first};

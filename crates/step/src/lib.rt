@@ -1,5 +1,7 @@
 // 01 "One step of a tracker" on rows that are lent: the steps on a block above the leaves, Top and Finish, and a step by its tracker's phase.
 // The public functions have no `requires`: what a step relies on is tested, and refused where it fails.
+#![tactic(auto)]
+
 ghost use Rattle.std.specs.Prelude.{◌≡◌, true, List, ℕ, suc, ◌+◌, ◌*◌, ◌≤◌, ◌<◌, length};
 ghost use Rattle.geometry.specs.Shape.{top_of};
 ghost use Rattle.laws.specs.Choice.{pick};

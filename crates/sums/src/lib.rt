@@ -1,5 +1,7 @@
 // The check of a block, by the old rule and by the new: 01 "Archive image", its second paragraph, and 02 E2; and the numbers of two bytes, its words.
 // No public function has a `requires`: where the bytes are not all there, a read gives 0 and a write changes nothing.
+#![tactic(auto)]
+
 ghost use Rattle.std.specs.Prelude.{◌≡◌, ◌+◌, ◌*◌, ◌<◌, ◌≤◌, length};
 ghost use Rattle.laws.specs.Bytes.{number_at, put_w, bytes};
 ghost use Rattle.sums.specs.Check.{word, sum_a, sum_b, check_right, with_check, modulus_for};

@@ -1,5 +1,7 @@
 // 02 E1: is anything tagged between here and there? The lowest tagged group from A up to but not including B, and the number of tagged leaves.
 // No public function has a `requires`. Zero words of the map are passed over: time goes with the map's words and the tagged leaves, not with the groups.
+#![tactic(auto)]
+
 ghost use Rattle.std.specs.Prelude.{◌≡◌, true, ℕ, ◌+◌, ◌*◌, ◌^◌, ◌%◌, ◌≤◌, ◌<◌, length};
 ghost use Rattle.laws.specs.Refusal.{refusal};
 ghost use Rattle.laws.specs.Scan.{first_from, count_from};

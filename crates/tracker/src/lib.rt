@@ -1,5 +1,7 @@
 // 01 "One step of a tracker": a tracker's phase and fields, and what a call answers.
 // Structs and enums by value; no public function has a `requires`.
+#![tactic(auto)]
+
 ghost use Rattle.std.specs.Prelude.{◌≡◌, ◌+◌, min};
 ghost use Rattle.tracker.specs.Tracker.{idle, level_of, asks_at, keeps_at, first_phase, after_probe, read_of, write_of, issued, at, goes_to, counted, tick, is_idle};
 ghost use Rattle.tracker.specs.Transfers.{none, most_transfers, plus};
@@ -7,7 +9,7 @@ ghost use Rattle.laws.specs.Choice.{pick};
 
 // Where a tracker stands. Probe and Under are of a level: on 01's device Under(0) is its Leaf, and Top its Map. Finish is two, Set and Clear, by what it
 // does to the bit over a block of a level.
-#[derive(Drop)]
+#[derive(Clone, Copy)]
 pub enum Phase {
     Idle,
     Probe(u8),
@@ -76,7 +78,7 @@ impl Phase {
 }
 
 // A read, or a write of a value, of a group, top-down or bottom-up. The value of a read means nothing.
-#[derive(Drop)]
+#[derive(Clone, Copy)]
 pub struct Access {
     pub write: bool,
     pub bottom: bool,
@@ -85,14 +87,14 @@ pub struct Access {
 }
 
 // Blocks fetched from memory and blocks written back to it.
-#[derive(Drop)]
+#[derive(Clone, Copy)]
 pub struct Transfers {
     pub fetched: u8,
     pub back: u8,
 }
 
 // One access under way, with what its steps have transferred; `bottom` stays after Probe. An idle tracker that ended has every field zero.
-#[derive(Drop)]
+#[derive(Clone, Copy)]
 pub struct Tracker {
     pub phase: Phase,
     pub write: bool,
@@ -104,7 +106,7 @@ pub struct Tracker {
 }
 
 // What a call answers. `Read` carries the group and the turns, `Done` and `Same` the turns, `No` the refusal.
-#[derive(Drop)]
+#[derive(Clone, Copy)]
 pub enum Answer {
     Accepted,
     Wait,

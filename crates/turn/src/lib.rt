@@ -1,5 +1,7 @@
 // A call on a state that is known to be whole, on the one tracker that it names: for those who test a state once and then play many calls on it.
 // No public function has a `requires`: every number, tracker and lent row can be anything.
+#![tactic(auto)]
+
 ghost use Rattle.std.specs.Prelude.{◌≡◌, List, ℕ, ltb, length};
 ghost use Rattle.laws.specs.Choice.{pick};
 ghost use Rattle.geometry.specs.TagMemory.{most_lines, most_trackers};

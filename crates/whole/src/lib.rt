@@ -1,5 +1,7 @@
 // 01 "What is refused": whether a state is whole, part by part, on lent lines and a table of trackers; and the refusals of issue, step, drain and show that come after 4 and 2.
 // No public function has a `requires`; the parts of the whole test that come after the limits may rely on them.
+#![tactic(auto)]
+
 ghost use Rattle.std.specs.Prelude.{◌≡◌, true, List, suc, ◌<◌, ◌≤◌, min, leb, length, get_or};
 ghost use Rattle.laws.specs.Choice.{both, implies, no};
 ghost use Rattle.laws.specs.Refusal.{refusal};

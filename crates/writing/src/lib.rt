@@ -1,5 +1,7 @@
 // Writing an image, of version 2, from a true memory: 01 "Archive image", "Writing reads a true memory", and 02 E2.
 // A block is written over any records: `put_record` puts each in its place, `close_block` makes the row their block. No public function has a `requires`.
+#![tactic(auto)]
+
 ghost use Rattle.std.specs.Prelude.{◌≡◌, true, ◌+◌, ◌*◌, ◌/◌, ◌-◌, ◌≤◌, ◌<◌, length, ◌++◌};
 ghost use Rattle.laws.specs.Bytes.{splice, put_w, bytes};
 ghost use Rattle.geometry.specs.TagMemory.{memory_length};

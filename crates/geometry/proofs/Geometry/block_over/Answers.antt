@@ -1,0 +1,12 @@
+-- `block_over` meets its contract: the blocks below level e are not many.
+use Prim.Native.Nat.{◌≤◌}
+use native.Mathlib.Omega.{arith}
+use Rattle.geometry.proofs.Levels.{base-few}
+use Rattle.geometry.proofs.Geometry.block_over.Goals as goal
+
+pub overflow_add-result : goal.overflow_add-result
+overflow_add-result c =
+    let a = c.args in
+    let n-most : a.n ≤ 4294967295 = omega arith in
+    let e-most : a.e ≤ 255 = omega arith in
+    omega (arith, e-most, c.base.ensures, base-few a.n 4294967295 a.e n-most)

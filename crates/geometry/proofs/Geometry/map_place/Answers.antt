@@ -1,0 +1,24 @@
+-- The address rule, and that its numbers fit.
+use Rattle.geometry.specs.TagMemory.{map_block_of, map_byte_of, map_bit_of, map_blocks, leaf_of, byte_of}
+use borrow.Author.Rules.{rules}
+use Rattle.geometry.proofs.Geometry.map_place.Goals as goal
+
+pub map_number-requires : goal.map_number-requires
+unfolding map_block_of map_byte_of map_bit_of map_blocks leaf_of byte_of
+map_number-requires c = search rules
+
+pub overflow_mul-result : goal.overflow_mul-result
+unfolding map_block_of map_byte_of map_bit_of map_blocks leaf_of byte_of
+overflow_mul-result c = search rules
+
+pub map_byte_of-requires : goal.map_byte_of-requires
+unfolding map_block_of map_byte_of map_bit_of map_blocks leaf_of byte_of
+map_byte_of-requires c = search rules
+
+pub overflow_add-result : goal.overflow_add-result
+unfolding map_block_of map_byte_of map_bit_of map_blocks leaf_of byte_of
+overflow_add-result c = search rules
+
+pub returns : goal.returns
+unfolding map_block_of map_byte_of map_bit_of map_blocks leaf_of byte_of
+returns c = search rules

@@ -1,0 +1,23 @@
+-- Before each turn every group passed is zero.
+use mathlib.Core.Path.{refl, sym, ◌∙◌}
+use Prim.Native.Nat.{◌-◌}
+use native.Mathlib.Omega.{arith}
+use Rattle.laws.proofs.Scan.{first_from-none}
+use Rattle.tagged.specs.Tagged.{is_tagged}
+use Rattle.tagged.proofs.Search.{hit-group, skip-group}
+use Rattle.tagged.proofs.first_in_leaf.Goals as goal
+
+pub loop-g-init : goal.loop-g-init
+loop-g-init c = (omega arith, omega arith, refl)
+
+pub returns-then-group_at-ne0 : goal.returns-then-group_at-ne0
+returns-then-group_at-ne0 c = let a = c.args in let l = c.loop-g in
+    sym (hit-group a.n a.memory.now a.k l.g a.b c.group_place.result c.group_at.result (omega arith) (omega arith) (omega arith) c.requires.3 c.group_place.ensures c.group_at.ensures c.if-group_at-ne0.true) ∙ l.invariant.2
+
+pub loop-g-preserved : goal.loop-g-preserved
+loop-g-preserved c = let a = c.args in let l = c.loop-g in
+    (omega arith, omega arith, skip-group a.n a.memory.now a.k l.g a.b c.group_place.result c.group_at.result (omega arith) (omega arith) (omega arith) c.requires.3 c.group_place.ensures c.group_at.ensures c.if-group_at-ne0.false ∙ l.invariant.2)
+
+pub returns : goal.returns
+returns c = let a = c.args in let l = c.loop-g in
+    sym (first_from-none (is_tagged a.n a.memory.now) l.g a.b (λ k h q. absurd (omega arith))) ∙ l.invariant.2

@@ -1,0 +1,12 @@
+-- Before each turn the marked leaves of the bytes passed are counted.
+use mathlib.Core.Path.{◌≡◌}
+use Prim.Native.Nat.{◌*◌, ◌-◌, ◌≤◌}
+use Rattle.laws.specs.Scan.{count_from}
+use Rattle.tagged.specs.Tagged.{is_marked}
+use Rattle.tagged.proofs.in_bytes.Given as goal
+
+abbrev pub invariant-loop-i : goal.invariant-loop-i
+invariant-loop-i l = (l.j ≤ l.i) × (l.i ≤ l.end) × (l.leaves ≡ count_from (is_marked l.n l.memory) (8 * l.j) (8 * l.i))
+
+abbrev pub decreases-loop-i : goal.decreases-loop-i
+decreases-loop-i l = l.end - l.i

@@ -1,0 +1,41 @@
+-- `writing::put_blocks` meets its contract: j record blocks are written, and k is the leaf after the last of their records.
+use mathlib.Core.Path.{◌≡◌, refl, ap, ◌∙◌}
+use Prim.Native.Nat.{◌+◌, ◌*◌, ◌-◌}
+use native.Mathlib.Omega.{arith}
+use lib.ListN.{length}
+use Rattle.laws.proofs.Put.{part-is, length_part, splice-is}
+use Rattle.form.specs.Encode.{blocks_for}
+use Rattle.form.proofs.Records.{below_none, next-bounds}
+use Rattle.writing.proofs.Blocks.{start, room, next-block}
+use borrow.Author.Rules.{rules}
+use Rattle.writing.proofs.put_blocks.Goals as goal
+
+pub loop-j-init : goal.loop-j-init
+loop-j-init c = start _ _ _ _ (below_none _ _)
+
+pub put_block-k-requires : goal.put_block-k-requires
+put_block-k-requires c = let a = c.args in
+    let l = c.loop-j in
+    let at = 512 * (l.j + 1) in (
+      ap length (part-is l.output at 512) ∙ length_part l.output at 512 (omega (arith, l.invariant.long)),
+      omega (arith, c.next_7-count.ensures, (next-bounds (a.m - 7 * l.j)).0),
+      search rules,
+      l.invariant.leaf,
+      omega (arith, c.next_7-count.ensures, room a.output.now a.memory.now a.n a.m l.output l.j l.k l.invariant (omega arith) (omega arith)),
+    )
+
+pub loop-j-preserved : goal.loop-j-preserved
+loop-j-preserved c = let a = c.args in
+    let l = c.loop-j in
+    let at = 512 * (l.j + 1) in
+    let p = c.put_block-k in
+    rw (splice-is l.output at 512 {y = p.new.row} {b = p.new.row} (omega (arith, l.invariant.long)) refl p.auto.row)
+    (next-block a.output.now a.memory.now a.n a.m l.output l.j l.k l.invariant (omega arith) (omega arith) p.result c.next_7-count.result p.new.row (omega arith) (omega arith) c.next_7-count.ensures p.ensures.0 p.ensures.1 p.ensures.2)
+
+pub shape_of-output : goal.shape_of-output
+shape_of-output c = c.loop-j.invariant.long
+
+pub returns : goal.returns
+returns c = let P = c.loop-j.invariant in
+    let e : c.loop-j.j ≡ blocks_for c.args.m = omega (arith, P.few) in
+    rw (← e) P.done

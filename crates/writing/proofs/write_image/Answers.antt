@@ -1,0 +1,56 @@
+-- `writing::write_image` meets its contract, by a law for each refusal in its order.
+use mathlib.Core.Path.{◌≡◌, sym, ◌∙◌}
+use Prim.Native.Nat.{◌+◌, ◌*◌, ◌/◌}
+use native.Mathlib.Omega.{arith}
+use lib.ListN.{length}
+use Rattle.geometry.specs.TagMemory.{memory_length}
+use Rattle.geometry.proofs.Limits.{in_limits-most}
+use Rattle.form.proofs.Records.{length-below}
+use Rattle.form.specs.Encode.{image_of}
+use Rattle.form.proofs.Refusals.{length-image, refusal-1, refusal-2, refusal-3, refusal-9, refusal-none, refused, accepted}
+use borrow.Author.Rules.{rules}
+use Rattle.writing.proofs.write_image.Goals as goal
+
+pub returns-then-not-in_limits : goal.returns-then-not-in_limits
+returns-then-not-in_limits c = let a = c.args in
+    refused a.n a.memory.now a.output.now 0 (refusal-1 _ _ _ (sym c.in_limits.ensures ∙ c.if-not-in_limits.true))
+
+pub overflow_cast-leaves : goal.overflow_cast-leaves
+overflow_cast-leaves c = omega (arith, in_limits-most 1 _ (sym c.in_limits.ensures ∙ c.if-not-in_limits.false))
+
+pub returns-then-memory-memory_length : goal.returns-then-memory-memory_length
+returns-then-memory-memory_length c = let a = c.args in
+    refused a.n a.memory.now a.output.now 1 (refusal-2 _ _ _ (sym c.in_limits.ensures ∙ c.if-not-in_limits.false) (λ e. c.if-memory-memory_length.true (e ∙ sym c.memory_length.ensures)))
+
+pub returns-then-not-is_true : goal.returns-then-not-is_true
+returns-then-not-is_true c = let a = c.args in
+    refused a.n a.memory.now a.output.now 2 (refusal-3 _ _ _ (sym c.in_limits.ensures ∙ c.if-not-in_limits.false) (omega (arith, c.memory_length.ensures)) (sym c.is_true.ensures ∙ c.if-not-is_true.true))
+
+pub count_marked-m-requires : goal.count_marked-m-requires
+count_marked-m-requires c = (
+  omega (arith, in_limits-most 1 _ (sym c.in_limits.ensures ∙ c.if-not-in_limits.false)),
+  omega (arith, c.memory_length.ensures),
+  sym c.is_true.ensures ∙ c.if-not-is_true.false,
+)
+
+pub returns-then-output-long : goal.returns-then-output-long
+returns-then-output-long c = let a = c.args in
+    let h = (sym c.in_limits.ensures ∙ c.if-not-in_limits.false) in
+    let l : length a.memory.now ≡ memory_length a.n = (omega (arith, c.memory_length.ensures)) in
+    refused a.n a.memory.now a.output.now 8 (refusal-9 _ _ _ h l (sym c.is_true.ensures ∙ c.if-not-is_true.false)
+    (omega (arith, length-image a.n a.memory.now c.count_marked-m.result (omega arith) c.count_marked-m.ensures)))
+
+pub put_image-requires : goal.put_image-requires
+put_image-requires c = let a = c.args in
+    let h = in_limits-most 1 _ (sym c.in_limits.ensures ∙ c.if-not-in_limits.false) in
+    let l : length a.memory.now ≡ memory_length a.n = (omega (arith, c.memory_length.ensures)) in
+    (search rules, l, omega arith, omega (arith, c.count_marked-m.ensures, length-below a.n a.memory.now a.n), c.count_marked-m.ensures)
+
+pub returns : goal.returns
+returns c = let a = c.args in
+    let h = (sym c.in_limits.ensures ∙ c.if-not-in_limits.false) in
+    let l : length a.memory.now ≡ memory_length a.n = (omega (arith, c.memory_length.ensures)) in
+    let e : length (image_of a.n a.memory.now) ≡ 512 * (1 + (c.count_marked-m.result + 6) / 7) = length-image a.n a.memory.now c.count_marked-m.result (omega arith) c.count_marked-m.ensures in
+    let z = refusal-none a.n a.memory.now (length a.output.now) h l (sym c.is_true.ensures ∙ c.if-not-is_true.false) (omega arith) in
+    let r = accepted a.n a.memory.now a.output.now (512 * (1 + (c.count_marked-m.result + 6) / 7)) z (sym e) in
+    (r.0, c.put_image.ensures ∙ r.1)
