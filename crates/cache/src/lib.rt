@@ -1,5 +1,7 @@
 // The cache and its trackers: 01's calls fresh, open, issue, step, drain and show, over a state that goes by value.
 // No public function has a `requires`: every number, every field of the state and both lent slices can be anything.
+#![tactic(auto)]
+
 ghost use Rattle.std.specs.Prelude.{◌≡◌, List, true, ℕ, ◌≤◌, ◌<◌};
 ghost use Rattle.geometry.specs.Shape.{shape_of, top_of};
 ghost use Rattle.geometry.specs.TagMemory.{in_limits_of, most_lines};
@@ -16,7 +18,7 @@ use outcome::Turned;
 use tracker::{Access, Answer, Tracker, Transfers};
 
 // The shape, with L lines and T trackers: a line is a number (`line`), 0 where it is free; lines L and up, trackers T and up are not used.
-#[derive(Drop)]
+#[derive(Clone, Copy)]
 pub struct State {
     pub shape: Shape,
     pub lines: [u32; Geometry::MOST_LINES],
@@ -27,7 +29,7 @@ pub struct State {
 const TOP: u8 = 1;
 
 // What a call hands back: the state, and beside it the answer, and the transfers that an ending or a drain carries.
-#[derive(Drop)]
+#[derive(Clone, Copy)]
 pub struct Out {
     pub state: State,
     pub answer: Answer,

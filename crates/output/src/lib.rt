@@ -1,5 +1,7 @@
 // 01 "The replay program": a line of its output. Reading one says whether it is a line of replay at all and, of an ending, what it carries and where its turn count stands.
 // No public function has a `requires`. A line is its bytes, newline apart.
+#![tactic(auto)]
+
 ghost use Rattle.std.specs.Prelude.{◌≡◌, ◌-◌, ◌≤◌, ◌<◌, min, length};
 ghost use Rattle.output.specs.Line.{alike_at, has_at, ends_at, digit_of, digit_at, digits_from, number_at, last_of, hex_of, value_at, closes_at, plain_at, reads_at, count_at, number_is, out_of, rest_at, ending_with, ending_of, answer_at, line_of, is_line};
 

@@ -1,5 +1,7 @@
 // Salvage of a damaged image: 02 E8. From the blocks that are sound a new sound image of version 2, and the list of what was left out.
 // One walk over the blocks counts and one writes; the counting one is lent an output and a list that are not the caller's. No public function has a `requires`.
+#![tactic(auto)]
+
 ghost use Rattle.std.specs.Prelude.{◌≡◌, List, [], ◌∷◌, ◌++◌, true, ℕ, ◌+◌, ◌*◌, ◌%◌, ◌-◌, ◌≤◌, ◌<◌, length};
 ghost use Rattle.laws.specs.Choice.{both};
 ghost use Rattle.laws.specs.Bytes.{bytes, splice, put_w};

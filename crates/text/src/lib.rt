@@ -1,5 +1,7 @@
 // 01 "The replay program": the text of an answer, a line of the output.
 // No public function has a `requires`.
+#![tactic(auto)]
+
 ghost use Rattle.std.specs.Prelude.{◌≡◌, ◌++◌, ◌+◌, ◌≤◌, ◌<◌, length};
 ghost use Rattle.laws.specs.Bytes.{splice};
 ghost use Rattle.tracker.specs.Answer.{says, read};

@@ -7,10 +7,10 @@ pub returns-in-Other : goal.returns-in-Other
 returns-in-Other c = sym (named_other _ c.in-Other.is)
 
 pub returns-in-Issue : goal.returns-in-Issue
-returns-in-Issue c = c.below.ensures ∙ sym (named-issue _ c.a-1.given.1)
+returns-in-Issue c = c.below.ensures ∙ sym (named-issue _ c.in-Issue.is)
 
 pub returns-in-Step : goal.returns-in-Step
-returns-in-Step c = c.below-in-Step.ensures ∙ sym (named_step _ c.a-in-Step-1.given.1)
+returns-in-Step c = c.below-in-Step.ensures ∙ sym (named_step _ c.in-Step.is)
 
 pub returns-in-Drain : goal.returns-in-Drain
 returns-in-Drain c = sym (named-drain _ c.in-Drain.is)

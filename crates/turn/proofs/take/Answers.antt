@@ -7,10 +7,10 @@ pub returns-in-Other : goal.returns-in-Other
 returns-in-Other c = by-rule (turn-other _ _ _ _ c.in-Other.is) (c.refuses.ensures _ _ _)
 
 pub returns-in-Issue : goal.returns-in-Issue
-returns-in-Issue c = by-rule (turn-issue _ _ _ _ c.a-1.given.1) (c.issue.ensures _ _ _)
+returns-in-Issue c = by-rule (turn-issue _ _ _ _ c.in-Issue.is) (c.issue.ensures _ _ _)
 
 pub returns-in-Step : goal.returns-in-Step
-returns-in-Step c = by-rule (turn_step _ _ _ _ c.a-in-Step-1.given.1) c.one_step.ensures
+returns-in-Step c = by-rule (turn_step _ _ _ _ c.in-Step.is) c.one_step.ensures
 
 pub returns-in-Drain : goal.returns-in-Drain
 returns-in-Drain c = by-rule (turn-drain _ _ _ _ c.in-Drain.is) c.drain.ensures

@@ -1,0 +1,16 @@
+-- `show_refusal` meets its contract: 4 or 2, else what comes after them.
+use mathlib.Core.Path.{sym, ◌∙◌}
+use native.Mathlib.Omega.{arith}
+use Rattle.cache.specs.Seen.{seen}
+use Rattle.cache.proofs.Refusals.{show-unfit, show-fit}
+use Rattle.cache.proofs.State.show_refusal.Goals as goal
+
+pub returns-then-c-gt0 : goal.returns-then-c-gt0
+returns-then-c-gt0 c =
+    let a = c.args in
+    c.unfit-c.ensures ∙ sym (show-unfit (seen a.self) a.bytes.now a.memory.now a.k (omega arith))
+
+pub returns : goal.returns
+returns c =
+    let a = c.args in
+    c.show_refusal.ensures ∙ sym (show-fit (seen a.self) a.bytes.now a.memory.now a.k (omega arith))
