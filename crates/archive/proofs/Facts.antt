@@ -22,10 +22,10 @@ module _ (n : ℕ) (rs : List Record) (s : Sized rs) where
   pub blocks-8 : length rs ≡ 8 → length (encode version2 n rs) ≡ 1536
   blocks-8 e = blocks 8 e
 
-pub head-check : part (head_of version2 2 0) 508 4 ≡ 0x06 ∷ 0x00 ∷ 0x_e4 ∷ 0x05 ∷ []
+pub head-check : part (head_of version2 2 0) 508 4 ≡ 0x06 ∷ 0x00 ∷ 0xE4 ∷ 0x05 ∷ []
 unfolding version2 part bytes sum_a sum_b check_of head_of
 head-check = refl
 
-pub old-head-check : part (head_of version1 2 0) 508 4 ≡ 0x05 ∷ 0x00 ∷ 0x_e9 ∷ 0x04 ∷ []
+pub old-head-check : part (head_of version1 2 0) 508 4 ≡ 0x05 ∷ 0x00 ∷ 0xE9 ∷ 0x04 ∷ []
 unfolding version1 part bytes sum_a sum_b check_of head_of
 old-head-check = refl

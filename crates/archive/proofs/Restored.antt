@@ -15,7 +15,7 @@ use Rattle.laws.specs.Choice.{no}
 use Rattle.laws.specs.Bits.{with_bit}
 use Rattle.laws.specs.Bytes.{part, splice, Bytes}
 use Rattle.laws.proofs.Bits.{with_bit-lt}
-use Rattle.laws.proofs.Writes.{get_or-replicate as get_d-zeros}
+use Rattle.laws.proofs.Writes.{get_d_replicate as get_d-zeros}
 use Rattle.laws.proofs.Scan.{all-is, all-at}
 use Rattle.laws.proofs.Splice.{lt-or-ge, length-splice, get_d-before, get_d-in, get_d_after, part_same, part-other}
 use Rattle.laws.proofs.Parts.{part-set}

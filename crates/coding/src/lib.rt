@@ -1,5 +1,7 @@
 // A state as 64-bit words, for a caller that lends it: its coding, the state that words code, and a call's answer as words.
 // No public function has a `requires`: words can be anything, and as many as a caller likes.
+#![tactic(auto)]
+
 ghost use Rattle.std.specs.Prelude.{◌≡◌, true, suc, ◌+◌, ◌*◌, ◌≤◌, ◌<◌, eqb, length};
 ghost use Rattle.laws.specs.Choice.{pick, one};
 ghost use Rattle.laws.specs.Scan.{all};

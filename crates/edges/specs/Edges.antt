@@ -31,8 +31,8 @@ pub record Edges : Type 0 where
   pub length-513 : memory_length 513 ≡ 32960
   pub length_most : memory_length 262144 ≡ 16809984
   -- 02: "The head of n = 2, m = 0 becomes 06 00 E4 05 in its check", and "the check of the head for n = 2, m = 0 is 05 00 E9 04" of version 1
-  pub head-check : part (head_of version2 2 0) 508 4 ≡ 0x06 ∷ 0x00 ∷ 0x_e4 ∷ 0x05 ∷ []
-  pub old-head-check : part (head_of version1 2 0) 508 4 ≡ 0x05 ∷ 0x00 ∷ 0x_e9 ∷ 0x04 ∷ []
+  pub head-check : part (head_of version2 2 0) 508 4 ≡ 0x06 ∷ 0x00 ∷ 0xE4 ∷ 0x05 ∷ []
+  pub old-head-check : part (head_of version1 2 0) 508 4 ≡ 0x05 ∷ 0x00 ∷ 0xE9 ∷ 0x04 ∷ []
   -- "m = 0 gives one block; m = 7 two; m = 8 three": the bytes of an image of so many records
   pub blocks-0 : (n : ℕ) (rs : List Record) → Sized rs → length rs ≡ 0 → length (encode version2 n rs) ≡ 512
   pub blocks-7 : (n : ℕ) (rs : List Record) → Sized rs → length rs ≡ 7 → length (encode version2 n rs) ≡ 1024

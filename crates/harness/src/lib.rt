@@ -1,5 +1,7 @@
 // The calls of a licensee's harness: the state is lent as words, and each call gives 0, or what its comment says, or 4,294,967,296 plus the refusal.
 // No public function has a `requires`: words, bytes and numbers can be anything. Refused, nothing changes but the words of a refused fresh or open.
+#![tactic(auto)]
+
 ghost use Rattle.std.specs.Prelude.{◌≡◌, ◌-◌, eqb, ltb, length};
 ghost use Rattle.laws.specs.Choice.{pick};
 ghost use Rattle.geometry.specs.TagMemory.{values};

@@ -1,5 +1,7 @@
 // The measurement: two lines of replay's output compared, and the sheet's numbers over two lists of lines.
 // No public function has a `requires`. A line is its bytes, newline apart.
+#![tactic(auto)]
+
 ghost use Rattle.std.specs.Prelude.{◌≡◌, ◌+◌, ◌-◌};
 ghost use Rattle.laws.specs.Choice.{one};
 ghost use Rattle.measure.specs.Pair.{same_from, same_bytes, no_counts, other_pair, ending_pair, pair_ending, pair_of, one_pair, drift_of, other_transfers};
@@ -8,7 +10,7 @@ ghost use Rattle.measure.specs.Sheet.{stay, no_blocks, plus_blocks, no_tally, ad
 use output::{Counts, Line};
 
 // One place of the record and of the replay compared.
-#[derive(Drop)]
+#[derive(Clone, Copy)]
 pub struct Pair {
     // it is an ending of the same kind and value in both
     pub ending: bool,
@@ -125,14 +127,14 @@ pub fn compare(recorded: &[u8], replayed: &[u8]) -> Pair
 }
 
 // Blocks fetched and blocks written back, of many endings.
-#[derive(Drop)]
+#[derive(Clone, Copy)]
 pub struct Blocks {
     pub fetched: u64,
     pub back: u64,
 }
 
 // The sheet's numbers, and how many places they are of. Each stays at 2^64 - 1 once there.
-#[derive(Drop)]
+#[derive(Clone, Copy)]
 pub struct Tally {
     pub lines: u64,
     pub endings: u64,

@@ -6,14 +6,14 @@ ghost use Rattle.std.specs.Prelude.{◌≡◌, ◌-◌, ◌≤◌, ◌<◌, min,
 ghost use Rattle.output.specs.Line.{alike_at, has_at, ends_at, digit_of, digit_at, digits_from, number_at, last_of, hex_of, value_at, closes_at, plain_at, reads_at, count_at, number_is, out_of, rest_at, ending_with, ending_of, answer_at, line_of, is_line};
 
 // A number in a line: what it is, which stays at 65,536 once there, and the place after it.
-#[derive(Drop)]
+#[derive(Clone, Copy)]
 pub enum Number {
     Nothing,
     Is(u32, usize),
 }
 
 // What an ending carries: turns, blocks fetched, blocks written back. A record of before 02's E4 tells no transfers: then both are 0.
-#[derive(Drop)]
+#[derive(Clone, Copy)]
 pub struct Counts {
     pub turns: u32,
     pub told: bool,
@@ -22,7 +22,7 @@ pub struct Counts {
 }
 
 // What stands after an ending's turn count: what replay never prints, nothing, or the transfers.
-#[derive(Drop)]
+#[derive(Clone, Copy)]
 pub enum Tail {
     Broken,
     Bare,
@@ -30,7 +30,7 @@ pub enum Tail {
 }
 
 // A line: no line of replay, a line of replay that is no ending, or an ending with the place of its turn count, what it carries and the place after the count.
-#[derive(Drop)]
+#[derive(Clone, Copy)]
 pub enum Line {
     Stray,
     Plain,

@@ -1,5 +1,7 @@
 // A run of calls of a licensee's harness: calls lent as words are played one after another on a state that is tested once, and each has its answer's words.
 // No public function has a `requires`: words and bytes can be anything. Refused, nothing changes.
+#![tactic(auto)]
+
 ghost use Rattle.std.specs.Prelude.{◌≡◌, true, ◌+◌, ◌*◌, ◌≤◌, length};
 ghost use Rattle.laws.specs.Choice.{both};
 ghost use Rattle.laws.specs.Bytes.{splice};

@@ -15,7 +15,7 @@ const WORDS: usize = 254;
 
 const MODULUS: u64 = 65535;
 
-#[derive(Drop)]
+#[derive(Clone, Copy)]
 struct Sums {
     a: u16,
     b: u16,

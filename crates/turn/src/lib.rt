@@ -14,7 +14,7 @@ use outcome::Turned;
 use tracker::{Access, Answer, Tracker, Transfers};
 
 // What is asked for: a call, or something of another form.
-#[derive(Drop)]
+#[derive(Clone, Copy)]
 pub enum Asked {
     Other,
     Issue(u64, Access),

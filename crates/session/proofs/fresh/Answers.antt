@@ -1,0 +1,8 @@
+use Rattle.session.specs.Session.{fresh}
+use Rattle.session.proofs.fresh.Reads as reads
+use Rattle.cache.proofs.State.fresh.Reads as fresh-reads
+use Rattle.session.proofs.fresh.Goals as goal
+
+-- src/lib.rt:11:1
+pub returns : goal.returns
+returns c = λ a. fresh _ _ _ _ _ c.fresh.result c.fresh.ensures a
