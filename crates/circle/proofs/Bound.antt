@@ -17,6 +17,8 @@ rest (wants b k o a n) = 0
 rest (holds b r a n) = suc r
 
 rest-pos : (b : ℕ) (s : Slot) → Holds b s → 1 ≤ rest s
+rest-pos b rests e = elim e [ ]
+rest-pos b (wants b' k o a n) e = elim e [ ]
 rest-pos b (holds b' r a n) e = omega arith
 
 module _ (M H : ℕ) where

@@ -1,5 +1,5 @@
 -- What a call does in a ready state: it is refused and changes nothing, or an access is issued, a busy tracker is stepped, the lines are drained.
-use mathlib.Core.Path.{◌≡◌, refl, sym, ap, ◌∙◌}
+use mathlib.Core.Path.{◌≡◌, refl, sym, ap, ◌∙◌, subst}
 use mathlib.Core.Bool.{Bool, true, false}
 use mathlib.Core.List.{List}
 use mathlib.Core.Logic.{◌⊎◌, inl, inr, ⊎_elim}
@@ -116,7 +116,7 @@ pub call-keeps : (k : Kept) → Ready k → (c : Call) → Ready (kept (does k c
 call-keeps k s c = at (bare c) (does k c) (outcome k s c)
   where
     at : (c' : Call) (o : Out) → Outcome k c' o → Ready (kept o)
-    at c' o (refused r q same) = rw same s
+    at c' o (refused r q same) = subst (λ (z : Kept). Ready z) (sym same) s
     at c' o (issued x access p q is) = issue-keeps k s x access
     at c' o (stepped x p q) = step_keeps k s x
     at c' o (drained q is) = drain-keeps k s

@@ -73,6 +73,8 @@ holds-slot e a n write b b' (before k) h q = absurd (not-both-ways h refl)
 holds-slot e a n write b b' (after r) h q = q
 
 slot-holds : (e a n : ℕ) (write : Bool) (b b' : ℕ) (s : Stand) → Holds b (slot_at e a n write b' s) → (is_after s ≡ true) × (b ≡ b')
+slot-holds e a n write b b' rests h = elim h [ ]
+slot-holds e a n write b b' (before k) h = elim h [ ]
 slot-holds e a n write b b' (after r) h = (refl, h)
 
 later-le : (e : ℕ) (write : Bool) → later e write ≤ 2 * e

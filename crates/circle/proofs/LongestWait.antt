@@ -126,10 +126,10 @@ module _ (below M : ℕ) (o : Order (suc M)) where
       known = K.known;
     }
 
-    issue-at : (o' : Out) (x : ℕ) (access : Access) → Outcome k (issues x access) o' → o'.said ≡ ok
+    issue-at : (x : ℕ) (access : Access) (o' : Out) → Outcome k (issues x access) o' → o'.said ≡ ok
         → (x < suc M) × (is_idle (tracker_in k x) ≡ true) × Anew k (kept o') x (Tracker.issued access)
-    issue-at o' x access (Calls.refused r q z) e = absurd (ok-not-no (sym e ∙ q))
-    issue-at o' x access (Calls.issued x' access' p q is) e =
+    issue-at x access o' (Calls.refused r q z) e = absurd (ok-not-no (sym e ∙ q))
+    issue-at x access o' (Calls.issued x' access' p q is) e =
         let l : x < suc M = let c = K.count in omega arith in
         (l, q, anew-issued k K.ready x access p is)
 
@@ -153,7 +153,7 @@ module _ (below M : ℕ) (o : Order (suc M)) where
         k' = kept (does k (issues x access))
 
         r : (x < suc M) × (is_idle (tracker_in k x) ≡ true) × Anew k k' x (Tracker.issued access)
-        r = issue-at (does k (issues x access)) x access (outcome k K.ready (issues x access)) e
+        r = issue-at x access (does k (issues x access)) (outcome k K.ready (issues x access)) e
 
         hx : x < suc M
         hx = r.0
@@ -263,7 +263,7 @@ module _ (below M : ℕ) (o : Order (suc M)) where
     in-time : InTime (suc M) k given under
     in-time = record {
       busy = within;
-      ending = λ x said h u e. ending_at (does k (steps x)) x said (outcome k K.ready (steps x)) h u e refl;
+      ending = λ x said h u e. ending_at x (does k (steps x)) said (outcome k K.ready (steps x)) h u e refl;
       accepted = λ x c h b e. never-refused k K.ready x c (in-shape x h) b e;
     }
       where
@@ -274,10 +274,10 @@ module _ (below M : ℕ) (o : Order (suc M)) where
             let p = (K.known x h u b).last in
             rw K.levels (omega arith)
 
-        ending_at : (o' : Out) (x said : ℕ) → Outcome k (steps x) o' → x < suc M → under x ≡ true → Ending (does k (steps x)).said said → o'.said ≡ (does k (steps x)).said
+        ending_at : (x : ℕ) (o' : Out) (said : ℕ) → Outcome k (steps x) o' → x < suc M → under x ≡ true → Ending (does k (steps x)).said said → o'.said ≡ (does k (steps x)).said
             → (said ≡ min (suc (given x)) most_turns) × (suc (given x) ≤ last_turn_of k.state.shape (suc M) (tracker_in k x).write (tracker_in k x).bottom)
-        ending_at o' x said (Calls.refused r q z) h u e same = absurd (subst (λ (a : Said). Ending a said) (sym same ∙ q) e)
-        ending_at o' x said (Calls.stepped x' p b) h u e same = (ending-counts k x said (given x) (by-table k K.ready x p b) e (K.known x h u b).counts, within x h u b)
+        ending_at x o' said (Calls.refused r q z) h u e same = absurd (subst (λ (a : Said). Ending a said) (sym same ∙ q) e)
+        ending_at x o' said (Calls.stepped x' p b) h u e same = (ending-counts k x said (given x) (by-table k K.ready x p b) e (K.known x h u b).counts, within x h u b)
 
 -- a run keeps the level below the top, from the state in which it began
 keeps : (M : ℕ) (o : Order (suc M)) {k : Kept} {i : ℕ} {given : ℕ → ℕ} {under : ℕ → Bool} → Circle (suc M) o k i given under → (below : ℕ) × Keeps below M o k i given under

@@ -1,6 +1,8 @@
 // 01 "The replay program": a script's lines played on a cache, a chunk at a time.
 // The state is tested once for a chunk, not for each line, and its lines are not copied: the laws that a step keeps a whole state whole carry it on.
 // No public function has a `requires`.
+#![tactic(auto)]
+
 ghost use Rattle.std.specs.Prelude.{◌≡◌, true, ◌+◌, ◌<◌, ◌≤◌, ltb, length};
 ghost use Rattle.laws.specs.Choice.{both};
 ghost use Rattle.laws.specs.Bytes.{fits};
