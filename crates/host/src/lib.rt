@@ -1,4 +1,6 @@
 // 01 "The host simulator is in C": the calls that it makes, with numbers and byte slices; and those of a collector's runtime (02, E1).
+#![tactic(auto)]
+
 ghost use Rattle.std.specs.Prelude.{◌≡◌};
 ghost use Rattle.memory.specs.PlainReading.{plain_reading};
 ghost use Rattle.tagged.specs.Tagged.{between, between_as_true, group_number, leaves_number};
