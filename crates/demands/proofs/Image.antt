@@ -67,7 +67,7 @@ pub demand-2-image : Demand2Image
 demand-2-image t s s' b m b' m' cs list start p r =
     let k = kept_of s b m in
     let R = resting t k (begun t s b m start) cs (session-values p) (subst (λ z. AtRest (events cs z)) (session-says p) r) in
-    subst (λ (z : Kept). KeptByImage s.shape.n z.memory) (sym (session-leaves p)) (kept s.shape.n _ R.limits R.long R.is_true)
+    subst (λ (z : Kept). KeptByImage s.shape.n z.memory) (sym (session-leaves p)) (kept s.shape.n _ R.limits R.long R.is_true_lem)
 
 -- writing was accepted, so the memory is true
 module _ (n : ℕ) (memory : List ℕ) (c : ℕ) (e : writing_refusal n memory c ≡ 0) where

@@ -36,6 +36,9 @@ MoveOf x neither = ⊥
 pub turn_is : (x : ℕ) (e : Event) → MoveOf x (move_of e) → TurnOf x e
 turn_is x (Event.goes_on y) h = h
 turn_is x (Event.ends y b turns) h = h
+turn_is x (Event.begins y a) h = elim h [ ]
+turn_is x Event.drained h = elim h [ ]
+turn_is x Event.refused h = elim h [ ]
 
 -- what is under way at a tracker: nothing; an access issued at call i, its moment to come; entry p of the log, its end to come, which will tell b
 pub data Pending : Type 0 where

@@ -98,6 +98,10 @@ ending-told : (x : ℕ) (a : Said) (k : ℕ) → Ending a k → (b : Told) × (e
 ending-told x (Said.read v turns) k e = (Told.read v, ap (Event.ends x (Told.read v)) e)
 ending-told x (Said.done turns) k e = (Told.done, ap (Event.ends x Told.done) e)
 ending-told x (Said.same turns) k e = (Told.same, ap (Event.ends x Told.same) e)
+ending-told x Said.ok k e = elim e [ ]
+ending-told x Said.wait k e = elim e [ ]
+ending-told x Said.moved k e = elim e [ ]
+ending-told x (Said.no c) k e = elim e [ ]
 
 turn_by : (x : ℕ) (t t' : Tracker) (m : Move Phase) (said : Said) → is_idle t ≡ false → ToBusy m → Moved t m said t'
     → Turn x t t' (event (steps x) said)
@@ -214,7 +218,7 @@ module _ (k : Kept) (notes : ℕ → Note) (K : Noted k notes) where
       (λ y ne. rw (becomes-other notes x y n ne) (K.is-so y)))
 
   noted-at : (c : Call) (o : Out) → Outcome k c o → (y : ℕ) → True (noted (event c o.said) notes y) (tracker_in (kept o) y)
-  noted-at c o (Calls.refused r q z) = rw (z, q) K.is-so
+  noted-at c o (Calls.refused r q z) = subst (λ (w : Kept). (y : ℕ) → True (noted (event c o.said) notes y) (tracker_in w y)) (sym z) (rw q K.is-so)
   noted-at c o (Calls.issued x access h e is) =
       rw (ap (λ (a : Out). a.said) is) (each (λ (y : ℕ) (t : Tracker). True (becomes notes x (busy access.write access.bottom 0) y) t) k (kept o) x (Tracker.issued access)
       (anew-issued k K.ready x access h is)

@@ -87,7 +87,7 @@ module _ (k : Kept) (s : Ready k) (a : Alone k) where
       (refused-or-not (refusal (issue_tests k.state.shape x access k.state.trackers)))
 
   alone_at : (c : Call) (o : Out) → Outcome k c o → Alone (kept o)
-  alone_at c o (Calls.refused r q is) = rw is a
+  alone_at c o (Calls.refused r q is) = subst Alone (sym is) a
   alone_at c o (Calls.issued x access h e is) = alone-issued x access (none-met x access (ap (λ (d : Out). d.said) is)) (kept o)
       (anew-issued k s x access h is)
   alone_at c o (Calls.stepped x h b) = let r = step-turn k s x h b in alone-turn x r.0 (kept o) (event (steps x) o.said) b r.1 r.2

@@ -161,7 +161,7 @@ module _ (t : ℕ) (k : Kept) (B : Begun t k) where
         ∙ sym (text-then follows lines new k 1 number P.count);
   }
 
-  printed : {s0 s : State} {b0 m0 b m : List ℕ} {number : ℕ} {lines : List Asks} {text : List ℕ} → kept_of s0 b0 m0 ≡ k → Replays s0 b0 m0 s b m number lines text
+  printed : {s0 : State} {b0 m0 : List ℕ} {s : State} {b m : List ℕ} {number : ℕ} {lines : List Asks} {text : List ℕ} → kept_of s0 b0 m0 ≡ k → Replays s0 b0 m0 s b m number lines text
       → Printed k (kept_of s b m) number lines text
   unfolding left_by calls_for said_by transfers_by text_of
   printed e begun = record { fit = tt; leaves = e; count = refl; text-is = refl }

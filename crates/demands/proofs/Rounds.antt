@@ -81,6 +81,9 @@ module _ (below t : ℕ) (o : Order t) where
   other-turn : (notes : ℕ → Note) (x y : ℕ) (e : Event) → TurnOf x e → y ≢ x → noted e notes y ≡ notes y
   other-turn notes x y (Event.goes_on z) h ne = becomes-other notes z y (went_on (notes z)) (λ q. ne (q ∙ h))
   other-turn notes x y (Event.ends z b k) h ne = becomes-other notes z y (Notes.ended k (notes z)) (λ q. ne (q ∙ h))
+  other-turn notes x y (Event.begins z a) h ne = elim h [ ]
+  other-turn notes x y Event.drained h ne = elim h [ ]
+  other-turn notes x y Event.refused h ne = elim h [ ]
 
   -- in T places each busy tracker has a turn
   module _ (x : ℕ) where
@@ -146,6 +149,9 @@ module _ (below t : ℕ) (o : Order t) where
             let l : suc given < bound (suc (suc below)) t write bottom = subst (InTime (bound (suc (suc below)) t)) same (time below t o _ _ _ G' x) in
             inr (ih (suc given) same (round i given n far.0 G.place hx p l far.1 far.2))
         own (Event.ends y b c) s h p = inl (subst (EndOf x) (sym s) h)
+        own (Event.begins y a) s h p = elim h [ ]
+        own Event.drained s h p = elim h [ ]
+        own Event.refused s h p = elim h [ ]
 
         at : Dec (o.tracker i ≡ x) → EndOf x e ⊎ A
         at (yes p) = own e refl (subst (λ (y : ℕ). TurnOf y e) p q) p

@@ -82,6 +82,7 @@ met_of k drains h =
     let o = drain k.state k.bytes k.memory in
     let p = drain-bytes k.state k.bytes k.memory in
     subst (λ (b : List ℕ). Met (state_of k.state) k.bytes k.memory drains (out_of o) b o.memory) (sym p) (drained (out_of o) o.memory (did-out o k.bytes o.memory p refl))
+met_of k (lends bytes memory c) h = elim h [ ]
 
 abbrev pub answers_of : List Said → List Answer
 answers_of [] = []

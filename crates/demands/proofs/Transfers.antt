@@ -153,7 +153,7 @@ module _ (k : Kept) (s : Ready k) (before : ℕ → List Copy) (C : Counts k bef
       (λ y ne j. rw (becomes-other before x y (before x ++ step_copies k x) ne) (C y j)))
 
   counts-at : (c : Call) (o : Out) → Outcome k c o → Counts (kept o) (made_by k (event c o.said) before)
-  counts-at c o (Calls.refused r q z) = rw (z, q) C
+  counts-at c o (Calls.refused r q z) = subst (λ (w : Kept). Counts w (made_by k (event c o.said) before)) (sym z) (rw q C)
   counts-at c o (Calls.issued x access h e is) =
       rw (ap (λ (a : Out). a.said) is, (anew-issued k s x access h is).shape_is.levels) (each (λ (y : ℕ) (t : Tracker). is_idle t ≡ false → Counted (top_of k.state.shape) t (made_by k (Events.begins x access) before y)) k (kept o) x (Tracker.issued access)
       (anew-issued k s x access h is)
