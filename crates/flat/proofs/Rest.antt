@@ -33,7 +33,7 @@ use Rattle.flat.proofs.Views.{bit_on, bit-0, group-block, bit-block, empty_group
 use Rattle.flat.proofs.Contents.{content, Good, content-in, content-out, lined-or-not}
 use Rattle.flat.proofs.Contained.{View, Contained}
 use Rattle.flat.proofs.Lives.{lives, plain_in, Empty, True, rest-reads, rest-true, begins-contained}
-use Rattle.flat.proofs.Viewed.{view_of, exists, exists-is, exists-count, bits_is, lined-has}
+use Rattle.flat.proofs.Viewed.{view_of, exists-is, exists-count, bits_is, lined-has}
 use Rattle.flat.proofs.Played.{Means}
 
 -- the bits of a block that exists are those below

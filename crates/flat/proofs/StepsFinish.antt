@@ -28,7 +28,7 @@ use Rattle.line.specs.Word.{holder, word}
 use Rattle.line.proofs.Words.{holder-below}
 use Rattle.rules.specs.State.{Rows}
 use Rattle.rules.specs.Place.{with_lines}
-use Rattle.rules.specs.Step.{Turned, goes, own_line, bit_put, drop_empty, finish}
+use Rattle.rules.specs.Step.{Turned, own_line, bit_put, drop_empty, finish}
 use Rattle.rules.proofs.Lined.{at, Has, low}
 use Rattle.rules.proofs.Blocks.{Has64}
 use Rattle.rules.proofs.Keeps.{put_bit-length}

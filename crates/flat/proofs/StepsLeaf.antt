@@ -2,7 +2,7 @@
 use mathlib.Core.Path.{◌≡◌, refl, sym, ap, ◌∙◌, subst}
 use mathlib.Core.Bool.{Bool, true, false}
 use mathlib.Core.List.{List}
-use mathlib.Core.Logic.{◌⊎◌, ⊎_elim}
+use mathlib.Core.Logic.{⊎_elim}
 use Prim.Native.Nat.{ℕ, ◌<◌}
 use native.Mathlib.Nat.{zero-add}
 use native.Mathlib.Omega.{arith}
@@ -21,7 +21,7 @@ use Rattle.block.specs.Block.{group_at, put_group, all_zero}
 use Rattle.tracker.specs.declared.Phase.TheVariants.{Under}
 use Rattle.tracker.specs.declared.Tracker.{Tracker}
 use Rattle.tracker.specs.Transfers.{none}
-use Rattle.tracker.specs.Answer.{read, same}
+use Rattle.tracker.specs.Answer.{read}
 use Rattle.line.specs.Word.{word}
 use Rattle.rules.specs.State.{Rows}
 use Rattle.rules.specs.Place.{line_bytes, Brought, with_lines, bring_in, create}

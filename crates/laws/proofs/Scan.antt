@@ -1,7 +1,7 @@
 -- Laws of scans: what a loop shows turn by turn, and what the result says.
 use mathlib.Core.Path.{◌≡◌, refl, sym, ◌∙◌, subst, ap}
 use mathlib.Core.Bool.{Bool, true, false}
-use mathlib.Core.Logic.{◌⊎◌, ⊎_elim}
+use mathlib.Core.Logic.{⊎_elim}
 use Prim.Native.Nat.{ℕ, zero, suc, ◌+◌, ◌-◌, ◌≤◌, ◌<◌}
 use native.Mathlib.Nat.{eq-or-lt_of_le, le_of_suc-le-suc}
 use native.Mathlib.Numerals.{add-one}

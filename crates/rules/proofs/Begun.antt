@@ -3,7 +3,7 @@ use mathlib.Core.Path.{◌≡◌, refl, sym, ap, ◌∙◌}
 use mathlib.Core.Bool.{true, false}
 use mathlib.Core.List.{List}
 use mathlib.Core.Logic.{⊎_elim}
-use Prim.Native.Nat.{ℕ, suc, ◌-◌, ◌<◌}
+use Prim.Native.Nat.{ℕ, suc, ◌<◌}
 use native.Mathlib.Omega.{arith}
 use lib.ListN.{replicate}
 use Rattle.laws.proofs.Writes.{get_d_replicate}
@@ -23,7 +23,7 @@ use Rattle.rules.specs.Whole.{limits, phase_whole, whole}
 use Rattle.rules.specs.Calls.{Out, accepted, refused, fresh_tests, fresh, open_tests, opened}
 use Rattle.line.proofs.Words.{free-used}
 use Rattle.rules.proofs.Lined.{at, Has}
-use Rattle.rules.proofs.Whole.{Whole, facts-whole, t-most, l-least, l-most}
+use Rattle.rules.proofs.Whole.{facts-whole, t-most, l-least, l-most}
 
 module _ (n t l : ℕ) (lim : limits (shape_of n t l) ≡ true) where
   free-line : (i : ℕ) → used (at (replicate most_lines 0) i) ≡ false

@@ -1,5 +1,5 @@
 -- Laws of a right check: the ways in which it is not, and that sums written in place are the check.
-use Rattle.std.proofs.Common.{◌≡◌, ℕ, ◌+◌, ◌<◌, ◌≤◌, Bool, true, false, eqb, List, [], ◌++◌, length, take, drop, sym, refl, ap, ◌∙◌, append_assoc, append-nil, arith, length-append, take-append-drop, length-take-le, eq-eqb, ne_eqb, eqb-true}
+use Rattle.std.proofs.Common.{◌≡◌, ℕ, ◌<◌, ◌≤◌, Bool, true, false, eqb, List, [], ◌++◌, length, take, drop, sym, refl, ap, ◌∙◌, append_assoc, append-nil, arith, length-append, take-append-drop, length-take-le, eq-eqb, ne_eqb, eqb-true}
 use Rattle.laws.specs.Choice.{both}
 use Rattle.laws.specs.Bytes.{splice, part, put_w, bytes, number_at, Bytes}
 use Rattle.laws.proofs.Choice.{both_left, both_right, both_true, both-false-left, both-false-right}

@@ -1,6 +1,5 @@
 -- The zero test: before each turn `any` has the bits that are 1 in any byte passed, and is zero exactly if all of them are.
 use mathlib.Core.Path.{◌≡◌, sym, ◌∙◌}
-use Prim.Native.Nat.{◌-◌}
 use native.Mathlib.Omega.{arith}
 use borrow.Author.Rules.{rules}
 use lib.ListN.{length}

@@ -1,7 +1,6 @@
 -- Before each turn the first `at` bytes are zero and the others as they came.
 use mathlib.Core.Path.{◌≡◌, ◌∙◌}
 use mathlib.Core.List.{append-nil}
-use Prim.Native.Nat.{◌-◌}
 use native.Mathlib.Omega.{arith}
 use borrow.Author.Rules.{rules}
 use borrow.Author.Fill.{fill_more}

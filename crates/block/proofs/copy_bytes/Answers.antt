@@ -1,5 +1,4 @@
 -- The copy: before each turn the first `at` bytes are src's and the others as they came.
-use Prim.Native.Nat.{◌-◌}
 use native.Mathlib.Omega.{arith}
 use borrow.Author.Rules.{rules}
 use Rattle.block.proofs.Blocks.{copied_none, copied_more, copied_all}

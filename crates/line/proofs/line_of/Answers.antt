@@ -1,6 +1,5 @@
 -- `line_of` meets its contract. The invariant: none of the first i lines has the block; past the row every line is free.
 use mathlib.Core.Path.{sym, ◌∙◌}
-use Prim.Native.Nat.{◌-◌}
 use native.Mathlib.Omega.{arith}
 use Rattle.line.proofs.Find.{line_of-zero, line_of-miss, line_of-hit, line_of-past}
 use Rattle.line.proofs.line_of.Goals as goal

@@ -1,6 +1,5 @@
 -- `loose_from` meets its contract. The invariant: each of the lines from `from` to i is held; past the row none is.
 use mathlib.Core.Path.{sym, ◌∙◌}
-use Prim.Native.Nat.{◌-◌}
 use native.Mathlib.Omega.{arith}
 use Rattle.line.proofs.Find.{loose_from-below, loose_from-miss, loose_from-hit, loose_from-past, loose_from-far}
 use Rattle.line.proofs.loose_from.Goals as goal

@@ -1,6 +1,5 @@
 -- `lowest_free` meets its contract. The invariant: none of the first i lines is free; past the row every line is.
 use mathlib.Core.Path.{sym}
-use Prim.Native.Nat.{◌-◌}
 use native.Mathlib.Omega.{arith}
 use Rattle.line.proofs.Words.{used-is}
 use Rattle.line.proofs.Find.{lowest_free-zero, lowest_free-miss, lowest_free-hit, lowest_free-past}

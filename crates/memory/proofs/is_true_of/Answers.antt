@@ -1,6 +1,6 @@
 -- The true test, a level at a time from the leaves up: before each turn every bit over the levels passed is good.
 use mathlib.Core.Path.{refl, sym, ◌∙◌}
-use Prim.Native.Nat.{◌-◌, ◌≤◌}
+use Prim.Native.Nat.{◌≤◌}
 use native.Mathlib.Omega.{arith}
 use Rattle.geometry.proofs.Places.{map_blocks-most}
 use Rattle.geometry.proofs.Levels.{base-few, base_more, count_most, count-more}

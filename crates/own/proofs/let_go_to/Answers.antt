@@ -1,6 +1,5 @@
 -- `let_go_to` meets its contract. The invariant: levels 1 to e are let go.
 use mathlib.Core.Path.{◌≡◌, refl, sym, ◌∙◌}
-use Prim.Native.Nat.{◌-◌}
 use native.Mathlib.Omega.{arith}
 use Rattle.rules.proofs.Ways.{let_go-0}
 use Rattle.own.specs.Own.{line_on}

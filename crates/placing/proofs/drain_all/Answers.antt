@@ -1,6 +1,5 @@
 -- `drain_all` meets its contract: the loop's invariant says that the first i lines are drained.
 use borrow.Author.Rules.{rules}
-use Prim.Native.Nat.{◌-◌}
 use native.Mathlib.Omega.{arith}
 use Rattle.placing.proofs.Ways.{draining-none, draining-more, draining-all}
 use Rattle.placing.proofs.drain_all.Goals as goal

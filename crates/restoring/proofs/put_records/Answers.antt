@@ -1,6 +1,5 @@
 -- `restoring::put_records` meets its contract: p records are in place over zeros.
 use mathlib.Core.Path.{◌∙◌}
-use Prim.Native.Nat.{◌-◌}
 use native.Mathlib.Omega.{arith}
 use Rattle.form.specs.Calls.{records_in}
 use Rattle.restoring.proofs.Filling.{filled_none, filled_more, filled-all}

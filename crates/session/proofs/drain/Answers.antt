@@ -1,6 +1,4 @@
 use Rattle.session.specs.Session.{drained}
-use Rattle.session.proofs.drain.Reads as reads
-use Rattle.cache.proofs.State.drain.Reads as drain-reads
 use Rattle.session.proofs.drain.Goals as goal
 
 -- src/lib.rt:45:1

@@ -1,6 +1,4 @@
 use Rattle.session.specs.Session.{fresh}
-use Rattle.session.proofs.fresh.Reads as reads
-use Rattle.cache.proofs.State.fresh.Reads as fresh-reads
 use Rattle.session.proofs.fresh.Goals as goal
 
 -- src/lib.rt:11:1

@@ -1,8 +1,6 @@
 use Prim.Native.Nat.{◌<◌}
 use native.Mathlib.Omega.{arith}
 use Rattle.session.specs.Session.{issued}
-use Rattle.session.proofs.issue.Reads as reads
-use Rattle.cache.proofs.State.issue.Reads as issue-reads
 use Rattle.session.proofs.issue.Goals as goal
 
 -- src/lib.rt:24:1

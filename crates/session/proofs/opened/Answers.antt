@@ -1,6 +1,4 @@
 use Rattle.session.specs.Session.{opened}
-use Rattle.session.proofs.opened.Reads as reads
-use Rattle.cache.proofs.State.open.Reads as open-reads
 use Rattle.session.proofs.opened.Goals as goal
 
 -- src/lib.rt:18:1

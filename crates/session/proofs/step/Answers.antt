@@ -1,6 +1,4 @@
 use Rattle.session.specs.Session.{stepped}
-use Rattle.session.proofs.step.Reads as reads
-use Rattle.cache.proofs.State.step.Reads as step-reads
 use Rattle.session.proofs.step.Goals as goal
 
 -- src/lib.rt:39:1

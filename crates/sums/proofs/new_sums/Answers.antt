@@ -1,5 +1,5 @@
 -- `sums::new_sums` meets its contract: the loop keeps both sums, which wrap.
-use Rattle.std.proofs.Common.{◌≡◌, ◌+◌, ◌-◌, ◌%◌, sym, ap, ◌∙◌, arith}
+use Rattle.std.proofs.Common.{◌≡◌, ◌+◌, sym, ap, ◌∙◌, arith}
 use Rattle.sums.specs.Check.{sum_a, sum_b}
 use Rattle.sums.proofs.Words.{sum_a-none, sum_b-none, sum_a-more, sum_b-more}
 use Rattle.sums.proofs.new_sums.Goals as goal

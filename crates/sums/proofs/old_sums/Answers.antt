@@ -1,5 +1,5 @@
 -- `sums::old_sums` meets its contract: the loop keeps both sums without the modulus, which is taken at the end.
-use Rattle.std.proofs.Common.{◌≡◌, ◌-◌, sym, arith}
+use Rattle.std.proofs.Common.{◌≡◌, sym, arith}
 use Rattle.sums.proofs.Words.{plain_a-none, plain_b-none, plain_a-more, plain_b-more, sum_a-plain, sum_b-plain}
 use Rattle.sums.proofs.old_sums.Goals as goal
 

@@ -1,6 +1,5 @@
 -- Before each turn every group passed is zero.
 use mathlib.Core.Path.{refl, sym, ◌∙◌}
-use Prim.Native.Nat.{◌-◌}
 use native.Mathlib.Omega.{arith}
 use Rattle.laws.proofs.Scan.{first_from-none}
 use Rattle.tagged.specs.Tagged.{is_tagged}

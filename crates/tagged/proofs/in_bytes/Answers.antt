@@ -1,6 +1,6 @@
 -- Before each turn the marked leaves of the bytes passed are counted.
 use mathlib.Core.Path.{◌≡◌, sym, ap, ◌∙◌}
-use Prim.Native.Nat.{ℕ, ◌*◌, ◌-◌}
+use Prim.Native.Nat.{ℕ, ◌*◌}
 use native.Mathlib.Omega.{arith}
 use Rattle.laws.specs.Scan.{count_from}
 use Rattle.laws.proofs.Scan.{count_from-none}

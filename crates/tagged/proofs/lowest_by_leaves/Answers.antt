@@ -1,6 +1,6 @@
 -- Before each turn every group passed reads zero; a turn goes on to the next leaf with a mark.
 use mathlib.Core.Path.{refl, sym, ◌∙◌}
-use Prim.Native.Nat.{◌+◌, ◌-◌, ◌≤◌}
+use Prim.Native.Nat.{◌+◌, ◌-◌}
 use native.Mathlib.Omega.{arith}
 use Rattle.laws.proofs.Scan.{first_from-none}
 use Rattle.geometry.proofs.Places.{leaf_of-lt, groups-≤, groups-most}

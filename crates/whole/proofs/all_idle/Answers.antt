@@ -1,7 +1,6 @@
 -- `all_idle` meets its contract. The invariant: each of the first x trackers is idle.
 use borrow.Author.Rules.{rules}
 use mathlib.Core.Path.{refl, sym, ◌∙◌}
-use Prim.Native.Nat.{◌-◌}
 use native.Mathlib.Omega.{arith}
 use Rattle.laws.proofs.Scan.{all-zero, all_more, all-fails}
 use Rattle.tracker.specs.Tracker.{is_idle}

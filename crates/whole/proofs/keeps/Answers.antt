@@ -2,7 +2,6 @@
 use mathlib.Core.Path.{◌≡◌, sym}
 use mathlib.Core.Bool.{true, false}
 use native.Mathlib.Numerals.{add-one}
-use Prim.Native.Nat.{◌-◌}
 use native.Mathlib.Omega.{arith}
 use Rattle.laws.proofs.Scan.{all-zero, all_more}
 use Rattle.whole.proofs.Tests.{at_level, keeps-found, keeps-none, no_of}

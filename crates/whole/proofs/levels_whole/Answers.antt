@@ -1,6 +1,6 @@
 -- `levels_whole` meets its contract. The invariant: each of the first e levels is whole.
 use mathlib.Core.Path.{◌≡◌, sym, ◌∙◌}
-use Prim.Native.Nat.{suc, ◌-◌}
+use Prim.Native.Nat.{suc}
 use native.Mathlib.Numerals.{add-one}
 use native.Mathlib.Omega.{arith}
 use Rattle.laws.proofs.Scan.{all-zero, all_more, all-fails}

@@ -1,6 +1,5 @@
 -- `lines_whole` meets its contract. The invariant: each of the first i lines is whole.
 use mathlib.Core.Path.{◌≡◌, sym, ◌∙◌}
-use Prim.Native.Nat.{◌-◌}
 use native.Mathlib.Omega.{arith}
 use Rattle.laws.proofs.Scan.{all-zero, all_more, all-fails}
 use Rattle.whole.proofs.lines_whole.Goals as goal

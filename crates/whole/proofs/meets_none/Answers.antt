@@ -1,7 +1,6 @@
 -- `meets_none` meets its contract. The invariant: the access meets none of the first x trackers.
 use borrow.Author.Rules.{rules}
 use mathlib.Core.Path.{sym, ◌∙◌}
-use Prim.Native.Nat.{◌-◌}
 use native.Mathlib.Omega.{arith}
 use Rattle.whole.proofs.Refusals.{none-start, none_more, none-fails, none-past}
 use Rattle.whole.proofs.meets_none.Goals as goal

@@ -1,6 +1,5 @@
 -- `rest_free` meets its contract. The invariant: of the first i lines those from l on are free.
 use mathlib.Core.Path.{◌≡◌, sym}
-use Prim.Native.Nat.{◌-◌}
 use native.Mathlib.Omega.{arith}
 use lib.ListN.{length}
 use Rattle.whole.proofs.Tests.{rest-start, rest_more, rest-fails}

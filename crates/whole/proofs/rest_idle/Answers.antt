@@ -1,6 +1,5 @@
 -- `rest_idle` meets its contract. The invariant: of the first x trackers those from t on are idle.
 use mathlib.Core.Path.{◌≡◌, sym, ◌∙◌}
-use Prim.Native.Nat.{◌-◌}
 use native.Mathlib.Omega.{arith}
 use Rattle.geometry.specs.TagMemory.{most_trackers}
 use Rattle.whole.proofs.Tests.{idle-start, idle-more, idle-fails}

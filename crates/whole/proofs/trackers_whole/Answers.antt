@@ -1,6 +1,5 @@
 -- `trackers_whole` meets its contract. The invariant: each of the first x trackers is whole.
 use mathlib.Core.Path.{◌≡◌, sym, ◌∙◌}
-use Prim.Native.Nat.{◌-◌}
 use native.Mathlib.Omega.{arith}
 use Rattle.laws.proofs.Scan.{all-zero, all_more, all-fails}
 use Rattle.whole.proofs.trackers_whole.Goals as goal

@@ -1,6 +1,6 @@
 -- `writing::count_marked` meets its contract: m counts the leaves with bit 1 of the words before word i.
 use mathlib.Core.Path.{ap, sym, ◌∙◌}
-use Prim.Native.Nat.{◌+◌, ◌*◌, ◌-◌}
+use Prim.Native.Nat.{◌+◌, ◌*◌}
 use native.Mathlib.Omega.{arith}
 use lib.ListN.{length}
 use Rattle.laws.specs.Bytes.{Bytes}

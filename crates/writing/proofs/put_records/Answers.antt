@@ -1,6 +1,6 @@
 -- `writing::put_records` meets its contract: i records are written, and `next` is the leaf after the last of them.
 use mathlib.Core.Path.{◌≡◌, ap, ◌∙◌}
-use Prim.Native.Nat.{◌*◌, ◌-◌}
+use Prim.Native.Nat.{◌*◌}
 use native.Mathlib.Omega.{arith}
 use Rattle.block.specs.Block.{block_or0}
 use Rattle.block.proofs.Blocks.{block_or0-fits}

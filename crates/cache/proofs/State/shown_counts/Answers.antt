@@ -1,6 +1,5 @@
 -- `shown_counts` meets its contract. The invariant: it is what the bits from level e on say of the block above.
 use mathlib.Core.Path.{refl, sym, ◌∙◌}
-use Prim.Native.Nat.{◌-◌}
 use native.Mathlib.Numerals.{add-one}
 use native.Mathlib.Omega.{arith}
 use Rattle.geometry.specs.Shape.{top_of}

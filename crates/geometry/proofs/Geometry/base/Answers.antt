@@ -1,6 +1,6 @@
 -- `base` meets its contract: the blocks of the levels below i and those of level i, level by level.
 use mathlib.Core.Path.{◌≡◌, refl}
-use Prim.Native.Nat.{◌≤◌, ◌-◌}
+use Prim.Native.Nat.{◌≤◌}
 use native.Mathlib.Omega.{arith}
 use Rattle.geometry.proofs.Places.{map_blocks-most}
 use Rattle.geometry.proofs.Levels.{count_most, base_more, base-few, count-more}

@@ -1,6 +1,5 @@
 -- `index` meets its contract: the block of level i, level by level.
 use mathlib.Core.Path.{◌≡◌, sym, ◌∙◌}
-use Prim.Native.Nat.{◌-◌}
 use native.Mathlib.Omega.{arith}
 use Rattle.geometry.proofs.Levels.{index-0, index-more}
 use Rattle.geometry.proofs.Geometry.index.Goals as goal
