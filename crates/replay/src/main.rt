@@ -1,17 +1,20 @@
 // 01 "The replay program": a script on standard input, its answers on standard output.
 // The script is read in chunks. The whole lines of a chunk are played where they lie, and what is left moves to the buffer's front.
+#![tactic(auto)]
+
 ghost use Rattle.std.specs.Prelude.{◌≡◌, ◌+◌, ◌≤◌, ◌<◌, length};
 
 use cache::State;
 use geometry::{Geometry, Shape};
 use script::Command;
+use std::io::{Read, Stdin, Stdout, Write};
 use tracker::{Answer, Tracker};
 
 // One byte more than a line of a script can have: a line of which so much is kept is refused, whatever follows.
 const KEPT: usize = 65;
 
 // What is kept from chunk to chunk: the state, the number of the last line, whether line 1 was refused, the bytes of the chunk that are done, whether the output is open.
-#[derive(Drop)]
+#[derive(Clone, Copy)]
 struct Stage {
     state: State,
     number: u64,
@@ -64,17 +67,18 @@ fn least(a: usize, b: usize) -> usize
 }
 
 // The output's first bytes go out.
-fn write(output: &[u8], written: usize) -> bool {
+fn write(to: Stdout, output: &[u8], written: usize) -> bool {
     let n = least(written, output.len());
-    io::write_all(1, &output[..n])
+    let mut out = to;
+    out.write_all(&output[..n]).is_ok()
 }
 
 // The leaves and the lines that line 1 asks for; none where it is of another form.
-fn room_of(c: Command) -> Room {
+fn room_of(c: &Command) -> Room {
     match c {
         Command::New(n, l, t) => Room {
-            n,
-            lines: least(l as usize, Geometry::MOST_LINES),
+            n: *n,
+            lines: least(*l as usize, Geometry::MOST_LINES),
         },
         Command::Read(x, g, bottom) => Room { n: 0, lines: 0 },
         Command::Write(x, g, v, bottom) => Room { n: 0, lines: 0 },
@@ -115,14 +119,20 @@ fn bytes_cut(l: usize, bytes: &[u8]) -> usize
 }
 
 // Line 1, where it ends in the chunk.
-fn first(input: &[u8], bytes: &mut [u8], memory: &mut [u8], output: &mut [u8]) -> Stage {
+fn first(
+    to: Stdout,
+    input: &[u8],
+    bytes: &mut [u8],
+    memory: &mut [u8],
+    output: &mut [u8],
+) -> Stage {
     let e = play::first_end(input);
     if input.len() <= e {
         return before();
     }
     let taken = e + 1;
     let c = script::parse(&input[..e]);
-    let s = room_of(c);
+    let s = room_of(&c);
     let b = bytes_cut(s.lines, bytes);
     let m = memory_cut(s.n, memory);
     let o = play::begin(c, &bytes[..b], &mut memory[..m]);
@@ -135,12 +145,12 @@ fn first(input: &[u8], bytes: &mut [u8], memory: &mut [u8], output: &mut [u8]) -
         number: 1,
         refused: !accepted(answer),
         taken,
-        open: write(output, written),
+        open: write(to, output, written),
     }
 }
 
 // The lines after a refused line 1.
-fn refused(s: Stage, input: &[u8], output: &mut [u8]) -> Stage {
+fn refused(s: Stage, to: Stdout, input: &[u8], output: &mut [u8]) -> Stage {
     let p = play::refuse_all(s.number, input, output);
     let state = s.state;
     Stage {
@@ -148,12 +158,19 @@ fn refused(s: Stage, input: &[u8], output: &mut [u8]) -> Stage {
         number: p.number,
         refused: true,
         taken: p.taken,
-        open: write(output, p.written),
+        open: write(to, output, p.written),
     }
 }
 
 // The lines after an accepted line 1.
-fn later(s: Stage, input: &[u8], bytes: &mut [u8], memory: &mut [u8], output: &mut [u8]) -> Stage {
+fn later(
+    s: Stage,
+    to: Stdout,
+    input: &[u8],
+    bytes: &mut [u8],
+    memory: &mut [u8],
+    output: &mut [u8],
+) -> Stage {
     let state = s.state;
     let b = bytes_cut(state.shape.l, bytes);
     let m = memory_cut(state.shape.n, memory);
@@ -171,19 +188,26 @@ fn later(s: Stage, input: &[u8], bytes: &mut [u8], memory: &mut [u8], output: &m
         number: p.number,
         refused: false,
         taken: p.taken,
-        open: write(output, p.written),
+        open: write(to, output, p.written),
     }
 }
 
 // The lines of a chunk, as many as the output has room for.
-fn some(s: Stage, input: &[u8], bytes: &mut [u8], memory: &mut [u8], output: &mut [u8]) -> Stage {
+fn some(
+    s: Stage,
+    to: Stdout,
+    input: &[u8],
+    bytes: &mut [u8],
+    memory: &mut [u8],
+    output: &mut [u8],
+) -> Stage {
     if s.number == 0 {
-        return first(input, bytes, memory, output);
+        return first(to, input, bytes, memory, output);
     }
     if s.refused {
-        return refused(s, input, output);
+        return refused(s, to, input, output);
     }
-    later(s, input, bytes, memory, output)
+    later(s, to, input, bytes, memory, output)
 }
 
 // How many bytes there are still to look at, of `left`, after `taken` of them were done: none where no line was whole, or nobody reads the output.
@@ -201,12 +225,19 @@ fn rest(taken: usize, open: bool, left: usize) -> usize
 }
 
 // Every whole line of a chunk.
-fn every(s: Stage, input: &[u8], bytes: &mut [u8], memory: &mut [u8], output: &mut [u8]) -> Stage {
+fn every(
+    s: Stage,
+    to: Stdout,
+    input: &[u8],
+    bytes: &mut [u8],
+    memory: &mut [u8],
+    output: &mut [u8],
+) -> Stage {
     let mut stage = s;
     let mut from: usize = 0;
     let mut left = input.len();
     while 0 < left {
-        stage = some(stage, &input[from..], bytes, memory, output);
+        stage = some(stage, to, &input[from..], bytes, memory, output);
         let taken = least(stage.taken, left);
         from += taken;
         left = rest(taken, stage.open, left);
@@ -235,22 +266,23 @@ fn front(input: &mut [u8], from: usize, filled: usize) -> usize
 }
 
 // Reads into the part that is free; gives how much of the buffer is filled then.
-fn read(input: &mut [u8], filled: usize) -> usize
+fn read(from: Stdin, input: &mut [u8], filled: usize) -> usize
     ensures { result ≤ length input.old }
 {
     let at = least(filled, input.len());
-    at + least(read_into(&mut input[at..]), input.len() - at)
+    at + least(read_into(from, &mut input[at..]), input.len() - at)
 }
 
-// One read; gives how many bytes came.
-fn read_into(part: &mut [u8]) -> usize {
-    let got = libc::read(0, part);
-    io::count(got, part)
+// One read; gives how many bytes came: none where it failed.
+fn read_into(from: Stdin, part: &mut [u8]) -> usize {
+    let mut input = from;
+    input.read(part).unwrap_or(0)
 }
 
 // A last line that has no newline gets one.
 fn last(
     s: Stage,
+    to: Stdout,
     filled: usize,
     input: &mut [u8],
     bytes: &mut [u8],
@@ -265,7 +297,7 @@ fn last(
     }
     let end = filled + 1;
     input[filled] = 10;
-    every(s, &input[..end], bytes, memory, output);
+    every(s, to, &input[..end], bytes, memory, output);
 }
 
 // Where the program stands between two reads: the stage, how much of the buffer is filled, whether there is more to read.
@@ -279,6 +311,8 @@ struct Standing {
 // One read, and every line that is whole then.
 fn chunk(
     p: Standing,
+    from: Stdin,
+    to: Stdout,
     input: &mut [u8],
     bytes: &mut [u8],
     memory: &mut [u8],
@@ -286,16 +320,16 @@ fn chunk(
 ) -> Standing {
     let s = p.stage;
     let filled = p.filled;
-    let end = read(input, filled);
+    let end = read(from, input, filled);
     if end <= filled {
-        last(s, filled, input, bytes, memory, output);
+        last(s, to, filled, input, bytes, memory, output);
         return Standing {
             stage: s,
             filled: 0,
             more: false,
         };
     }
-    let stage = every(s, &input[..end], bytes, memory, output);
+    let stage = every(s, to, &input[..end], bytes, memory, output);
     let left = front(input, stage.taken, end);
     Standing {
         stage,
@@ -313,7 +347,14 @@ fn fewer(reads: u64, more: bool) -> u64
 }
 
 // Chunk after chunk, to the end of the input.
-fn run(input: &mut [u8], bytes: &mut [u8], memory: &mut [u8], output: &mut [u8]) {
+fn run(
+    from: Stdin,
+    to: Stdout,
+    input: &mut [u8],
+    bytes: &mut [u8],
+    memory: &mut [u8],
+    output: &mut [u8],
+) {
     let stage = before();
     let mut standing = Standing {
         stage,
@@ -322,7 +363,7 @@ fn run(input: &mut [u8], bytes: &mut [u8], memory: &mut [u8], output: &mut [u8])
     };
     let mut reads = u64::MAX;
     while 0 < reads {
-        standing = chunk(standing, input, bytes, memory, output);
+        standing = chunk(standing, from, to, input, bytes, memory, output);
         reads = fewer(reads, standing.more);
     }
 }
@@ -334,10 +375,31 @@ fn blank() -> [u8; 51328]
     [0; 51328]
 }
 
-fn main() {
-    let mut input = io::large_buffer();
-    let mut output = io::large_buffer();
-    let mut bytes = io::buffer();
+// A buffer for much input or output.
+fn large_buffer() -> [u8; 65536]
+    ensures { 65536 ≡ length result }
+{
+    [0; 65536]
+}
+
+// The bytes of 64 lines, the most that a script can ask for.
+fn buffer() -> [u8; 4096]
+    ensures { 4096 ≡ length result }
+{
+    [0; 4096]
+}
+
+fn main(rt: HostRuntime) {
+    let mut input = large_buffer();
+    let mut output = large_buffer();
+    let mut bytes = buffer();
     let mut memory = blank();
-    run(&mut input, &mut bytes, &mut memory, &mut output);
+    run(
+        rt.stdin(),
+        rt.stdout(),
+        &mut input,
+        &mut bytes,
+        &mut memory,
+        &mut output,
+    );
 }
