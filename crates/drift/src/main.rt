@@ -1,11 +1,15 @@
 // drift RECORD REPLAY: compares two outputs of replay line by line and says how far the turn counts drifted and which transfers differ.
 // The program reads lines and writes numbers; what a line, a pair of lines and the sheet's numbers are is said by `output` and `measure`.
+#![tactic(auto)]
+
 mod bytes;
 mod report;
 mod side;
 
 use measure::{Pair, Tally};
 use side::Side;
+use std::env::{Env, FillError};
+use std::fs::File;
 
 // The pair at a place. A line longer than the window is compared with nothing: it counts as changed.
 fn pair(x: Side, a: &[u8], y: Side, b: &[u8]) -> Pair {
@@ -25,13 +29,13 @@ fn pair(x: Side, a: &[u8], y: Side, b: &[u8]) -> Pair {
 }
 
 // Says what could not be read, and whether all was.
-fn whole(x: Side, record: &[u8], y: Side, replay: &[u8]) -> bool {
+fn whole(err: &impl Print, x: Side, record: &[u8], y: Side, replay: &[u8]) -> bool {
     if x.failed {
-        report::complain(record);
+        report::complain(err, record);
         return false;
     }
     if y.failed {
-        report::complain(replay);
+        report::complain(err, replay);
         return false;
     }
     true
@@ -46,7 +50,7 @@ fn some_line(x: Side, y: Side) -> bool {
 }
 
 // What one place leaves: the two files, the tally and how much of the output is filled.
-#[derive(Drop)]
+#[derive(Clone, Copy)]
 pub struct Walk {
     pub record: Side,
     pub replay: Side,
@@ -57,6 +61,7 @@ pub struct Walk {
 
 // One place, where a line is left in either file.
 fn compare_place(
+    rt: &impl Print,
     x: Side,
     a: &[u8],
     y: Side,
@@ -70,7 +75,7 @@ fn compare_place(
     let p = pair(x, a, y, b);
     let next = tally.add(p);
     let number = next.lines;
-    let f = report::flush_if(out, fill);
+    let f = report::flush_if(rt, out, fill);
     let g = report::say_stray(x, a, record, number, out, f);
     let h = report::say_stray(y, b, replay, number, out, g);
     let i = report::say_drift(p, number, out, h);
@@ -84,10 +89,17 @@ fn compare_place(
     }
 }
 
+// The two files; none where it could not be opened.
+#[derive(Drop)]
+struct Opened {
+    record: Option<File>,
+    replay: Option<File>,
+}
+
 // The next line of each file.
-fn next_lines(w: Walk, a: &mut [u8], b: &mut [u8]) -> Walk {
-    let x = side::advance(w.record, a);
-    let y = side::advance(w.replay, b);
+fn next_lines(w: Walk, files: &mut Opened, a: &mut [u8], b: &mut [u8]) -> Walk {
+    let x = side::advance(w.record, &mut files.record, a);
+    let y = side::advance(w.replay, &mut files.replay, b);
     let tally = w.tally;
     Walk {
         record: x,
@@ -99,18 +111,21 @@ fn next_lines(w: Walk, a: &mut [u8], b: &mut [u8]) -> Walk {
 }
 
 fn one_place(
+    rt: &impl Print,
     w: Walk,
+    files: &mut Opened,
     record: &[u8],
     replay: &[u8],
     a: &mut [u8],
     b: &mut [u8],
     out: &mut [u8],
 ) -> Walk {
-    let next = next_lines(w, a, b);
+    let next = next_lines(w, files, a, b);
     if !next.go {
         return next;
     }
     compare_place(
+        rt,
         next.record,
         a,
         next.replay,
@@ -124,7 +139,9 @@ fn one_place(
 }
 
 fn every_place(
+    rt: &impl Print,
     w: Walk,
+    files: &mut Opened,
     record: &[u8],
     replay: &[u8],
     a: &mut [u8],
@@ -134,7 +151,7 @@ fn every_place(
     let mut next = w;
     let mut turns = u64::MAX;
     while turns > 0 {
-        next = one_place(next, record, replay, a, b, out);
+        next = one_place(rt, next, files, record, replay, a, b, out);
         if !next.go {
             return next;
         }
@@ -143,13 +160,18 @@ fn every_place(
     next
 }
 
-fn compare(record: &[u8], replay: &[u8]) {
-    let mut a = io::large_buffer();
-    let mut b = io::large_buffer();
-    let mut out = io::large_buffer();
-    let x = side::open(record);
-    let y = side::open(replay);
-    if !whole(x, record, y, replay) {
+fn compare(rt: &HostRuntime, record: &[u8], replay: &[u8]) {
+    let mut a = [0u8; 65536];
+    let mut b = [0u8; 65536];
+    let mut out = [0u8; 65536];
+    let err = rt.stderr();
+    let mut files = Opened {
+        record: side::open(rt, record),
+        replay: side::open(rt, replay),
+    };
+    let x = Side::new(&files.record);
+    let y = Side::new(&files.replay);
+    if !whole(&err, x, record, y, replay) {
         return;
     }
     let tally = Tally::new();
@@ -160,26 +182,42 @@ fn compare(record: &[u8], replay: &[u8]) {
         fill: 0,
         go: true,
     };
-    let end = every_place(start, record, replay, &mut a, &mut b, &mut out);
-    if !whole(end.record, record, end.replay, replay) {
+    let end = every_place(
+        rt, start, &mut files, record, replay, &mut a, &mut b, &mut out,
+    );
+    if !whole(&err, end.record, record, end.replay, replay) {
         return;
     }
-    let f = report::flush_if(&out, end.fill);
+    let f = report::flush_if(rt, &out, end.fill);
     let g = report::say_tally(end.tally, &mut out, f);
-    report::flush(&out, g);
+    report::flush(rt, &out, g);
 }
 
-fn main() {
-    let mut record = io::buffer();
-    let mut replay = io::buffer();
-    if os::arg_count() != 3 {
-        io::write_all(
-            2,
-            b"drift: two file names are wanted: drift RECORD REPLAY\n",
-        );
-        return;
+// Puts an argument at the start of the row and answers its length, 0 where the row does not hold it; none where there is no such argument.
+fn argument(rt: &impl Env, at: usize, row: &mut [u8]) -> Option<usize> {
+    match rt.arg(at, row) {
+        Ok(n) => Some(n),
+        Err(FillError::TooLong) => Some(0),
+        Err(FillError::NotPresent) => None,
     }
-    let n = os::arg(1, &mut record);
-    let m = os::arg(2, &mut replay);
-    compare(&record[..n], &replay[..m]);
+}
+
+fn main(rt: HostRuntime) {
+    let mut record = [0u8; 4096];
+    let mut replay = [0u8; 4096];
+    let mut more = [0u8; 4096];
+    let n = argument(&rt, 1, &mut record);
+    let m = argument(&rt, 2, &mut replay);
+    let third = argument(&rt, 3, &mut more);
+    match (n, m, third) {
+        (Some(n), Some(m), None) => compare(
+            &rt,
+            bytes::part(&record, 0, n),
+            bytes::part(&replay, 0, m),
+        ),
+        _ => report::say(
+            &rt.stderr(),
+            b"drift: two file names are wanted: drift RECORD REPLAY\n",
+        ),
+    }
 }

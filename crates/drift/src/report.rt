@@ -6,23 +6,31 @@ use measure::{Pair, Tally};
 // The output is written out before a place that could need more than is left: two file names and four lines.
 const FULL: usize = 57000;
 
+// Puts a number's decimal digits, and answers the place after them.
 fn put_decimal(out: &mut [u8], at: usize, n: u64) -> usize {
-    let mut text = [0u8; 20];
-    let k = io::decimal(n, &mut text);
-    bytes::put_all(out, at, &text[..k])
+    let mut to = at;
+    if 10 <= n {
+        to = put_decimal(out, at, n / 10);
+    }
+    bytes::put(out, to, b'0' + (n % 10) as u8)
+}
+
+// Writes bytes to a standard stream. A write that fails is let go.
+pub(crate) fn say(to: &impl Print, s: &[u8]) {
+    let _ = to.write_all(s);
 }
 
 // Writes out what was put, and answers 0, the place to go on at.
-pub(crate) fn flush(out: &[u8], at: usize) -> usize {
+pub(crate) fn flush(rt: &impl Print, out: &[u8], at: usize) -> usize {
     if at <= out.len() {
-        io::write_all(1, &out[..at]);
+        say(rt, &out[..at]);
     }
     0
 }
 
-pub(crate) fn flush_if(out: &[u8], at: usize) -> usize {
+pub(crate) fn flush_if(rt: &impl Print, out: &[u8], at: usize) -> usize {
     if FULL < at {
-        return flush(out, at);
+        return flush(rt, out, at);
     }
     at
 }
@@ -116,8 +124,8 @@ pub(crate) fn say_tally(t: Tally, out: &mut [u8], at: usize) -> usize {
 }
 
 // A sentence on standard error.
-pub(crate) fn complain(name: &[u8]) {
-    io::write_all(2, b"drift: the file ");
-    io::write_all(2, name);
-    io::write_all(2, b" cannot be read\n");
+pub(crate) fn complain(err: &impl Print, name: &[u8]) {
+    say(err, b"drift: the file ");
+    say(err, name);
+    say(err, b" cannot be read\n");
 }

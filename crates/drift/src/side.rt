@@ -1,10 +1,12 @@
 // A file that is read through a window of bytes, a line at a time, and whether its present line is a line of replay.
 use crate::bytes;
+use std::fs;
+use std::fs::File;
+use std::io::Read;
 
-// A file that is read through a window of bytes that the caller lends, a line at a time.
-#[derive(Drop)]
+// Where a file stands that is read through a window of bytes that the caller lends, a line at a time.
+#[derive(Clone, Copy)]
 pub struct Side {
-    pub fd: i32,
     // the present line stands from `from` to `to`, the next begins at `next`, and the window has `end` bytes
     pub from: usize,
     pub to: usize,
@@ -18,18 +20,25 @@ pub struct Side {
     pub long: bool,
 }
 
-pub(crate) fn open(name: &[u8]) -> Side {
-    let fd = os::open_read(name);
-    Side {
-        fd,
-        from: 0,
-        to: 0,
-        next: 0,
-        end: 0,
-        over: false,
-        failed: fd < 0,
-        line: false,
-        long: false,
+// Opens a file; none where it cannot be opened, or its name is no text.
+pub(crate) fn open(rt: &HostRuntime, name: &[u8]) -> Option<File> {
+    let text = str::from_utf8(name).ok()?;
+    fs::open(rt, text).ok()
+}
+
+impl Side {
+    // Before the first line.
+    pub(crate) fn new(file: &Option<File>) -> Side {
+        Side {
+            from: 0,
+            to: 0,
+            next: 0,
+            end: 0,
+            over: false,
+            failed: file.is_none(),
+            line: false,
+            long: false,
+        }
     }
 }
 
@@ -57,29 +66,35 @@ fn forward(window: &mut [u8], from: usize, end: usize) -> usize {
     k
 }
 
+// Reads some bytes into a row that is not empty: how many, 0 at the end of the file, none where the file cannot be read.
+fn read_some(file: &mut Option<File>, row: &mut [u8]) -> Option<usize> {
+    match file {
+        Some(f) => f.read(row).ok(),
+        None => None,
+    }
+}
+
 // Reads more bytes behind those that the window has.
-fn read_on(x: Side, window: &mut [u8]) -> Side {
+fn read_on(x: Side, file: &mut Option<File>, window: &mut [u8]) -> Side {
     let end = x.end;
     let mut next = x;
     if window.len() <= end {
         next.over = true;
         return next;
     }
-    let got = libc::read(x.fd, &mut window[end..]);
-    if got < 0 {
-        next.failed = true;
+    match read_some(file, &mut window[end..]) {
+        Some(0) => next.over = true,
+        Some(n) => next.end = bytes::plus(end, n),
+        None => {
+            next.failed = true;
+            next.over = true;
+        }
     }
-    if got <= 0 {
-        next.over = true;
-        return next;
-    }
-    let n = io::count(got, window);
-    next.end = bytes::plus(end, n);
     next
 }
 
 // Makes room in the window and reads more. A line that fills it is too long: its bytes are let go.
-fn fill(x: Side, window: &mut [u8]) -> Side {
+fn fill(x: Side, file: &mut Option<File>, window: &mut [u8]) -> Side {
     let mut next = x;
     let k = forward(window, x.from, x.end);
     next.from = 0;
@@ -88,7 +103,7 @@ fn fill(x: Side, window: &mut [u8]) -> Side {
         next.end = 0;
         next.long = true;
     }
-    read_on(next, window)
+    read_on(next, file, window)
 }
 
 // One look for the end of the line: `line` says that it was found, or that no line is left.
@@ -113,7 +128,7 @@ fn look(x: Side, window: &[u8]) -> Side {
 }
 
 // The next line.
-pub(crate) fn advance(x: Side, window: &mut [u8]) -> Side {
+pub(crate) fn advance(x: Side, file: &mut Option<File>, window: &mut [u8]) -> Side {
     let mut next = x;
     next.from = x.next;
     next.line = false;
@@ -127,7 +142,7 @@ pub(crate) fn advance(x: Side, window: &mut [u8]) -> Side {
         if next.over {
             return next;
         }
-        next = fill(next, window);
+        next = fill(next, file, window);
         turns -= 1;
     }
     next
