@@ -17,7 +17,7 @@ if [[ $processor = *emulated* ]]; then
     exit
 fi
 if [ ! -f target/staticlib/libmodel.a ]; then
-    echo 'bench: the library target/staticlib/libmodel.a is not built; build it by: rt staticlib model' >&2
+    echo 'bench: the library target/staticlib/libmodel.a is not built; build it by: tools/build model' >&2
     exit 2
 fi
 work=$(mktemp -d)

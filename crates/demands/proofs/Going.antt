@@ -14,7 +14,6 @@ use Rattle.rules.specs.Run.{Call, issues, steps, drains, Kept, kept, does}
 use Rattle.circle.specs.Order.{next, Order, becomes}
 use Rattle.circle.specs.LastTurn.{bound}
 use Rattle.circle.proofs.Circle.{tracker_in, Circle}
-use Rattle.circle.proofs.Circle as Circle
 use Rattle.circle.proofs.Round.{next-in}
 use Rattle.circle.proofs.Becomes.{becomes-same, becomes-other}
 use Rattle.circle.proofs.Ready.{busy-below}

@@ -23,7 +23,7 @@ use Rattle.tracker.specs.declared.Transfers.{Transfers}
 use Rattle.tracker.specs.declared.Tracker.{Tracker}
 use Rattle.tracker.specs.Tracker.{idle, is_idle, is_idle_at, at_finish, issued, first_phase, after_probe, at, counted}
 use Rattle.tracker.proofs.Phases.{idle-unfinished}
-use Rattle.tracker.specs.Answer.{Said, ok}
+use Rattle.tracker.specs.Answer.{Said}
 use Rattle.rules.specs.State.{tracker_at, lengths_right}
 use Rattle.rules.specs.Run.{Call, issues, steps, drains, lends}
 use Rattle.flat.specs.Flat as flat

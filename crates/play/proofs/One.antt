@@ -13,7 +13,7 @@ use Rattle.play.specs.declared.Played.{Played}
 use Rattle.play.specs.declared.Refused.{Refused}
 use Rattle.play.specs.Play as definitions
 use Rattle.play.specs.Play.{begins, line_end, plays, refuses_all}
-use Rattle.play.specs.Seen.{kept, left, left_refused}
+use Rattle.play.specs.Seen.{left, left_refused}
 
 pub one-play : (k : Kept) (number : ℕ) (input output : List ℕ) (a b : Played) (x y m n p q : List ℕ)
     → left a x m p ≡ plays k number input output → left b y n q ≡ plays k number input output → (a ≡ b) × (x ≡ y) × (m ≡ n) × (p ≡ q)

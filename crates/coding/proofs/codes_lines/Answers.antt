@@ -1,6 +1,6 @@
 -- `codes_lines` meets its contract. The invariant: each of the first i lines is below 4,294,967,296.
 use mathlib.Core.Path.{◌≡◌, sym}
-use Prim.Native.Nat.{◌+◌, ◌-◌}
+use Prim.Native.Nat.{◌+◌}
 use lib.ListN.{get_or}
 use borrow.Author.Tests.{le-ltb, lt-ltb}
 use Rattle.laws.proofs.Scan.{all-zero, all_more, all-fails}

@@ -1,6 +1,5 @@
 -- `codes_trackers` meets its contract. The invariant: the words of the first x trackers code them.
 use mathlib.Core.Path.{◌≡◌, sym, ◌∙◌}
-use Prim.Native.Nat.{◌-◌}
 use Rattle.laws.proofs.Scan.{all-zero, all_more, all-fails}
 use native.Mathlib.Omega.{arith}
 use Rattle.coding.proofs.codes_trackers.Goals as goal

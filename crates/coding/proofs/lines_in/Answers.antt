@@ -1,6 +1,5 @@
 -- `lines_in` meets its contract. The invariant: the first i lines are the first i words of them.
 use mathlib.Core.Path.{◌≡◌, refl, sym, ap, ◌∙◌}
-use Prim.Native.Nat.{◌-◌}
 use lib.ListN.{replicate, length-set}
 use Rattle.laws.specs.Bytes.{splice}
 use Rattle.laws.proofs.Parts.{part_none}

@@ -1,7 +1,6 @@
 -- `put_lines` meets its contract. The invariant: the first i lines are written.
 use borrow.Author.Rules.{rules}
 use mathlib.Core.Path.{◌≡◌, refl, sym, ◌∙◌}
-use Prim.Native.Nat.{◌-◌}
 use lib.ListN.{length, length-set}
 use Rattle.laws.proofs.Writes.{splice-none, splice-copy}
 use Rattle.coding.proofs.Turns.{lines-written}

@@ -1,7 +1,6 @@
 -- `put_trackers` meets its contract. The invariant: the words of the first x trackers are written.
 use borrow.Author.Rules.{rules}
 use mathlib.Core.Path.{◌≡◌, refl, sym, ◌∙◌}
-use Prim.Native.Nat.{◌-◌}
 use lib.ListN.{length}
 use Rattle.laws.proofs.Writes.{splice-none}
 use Rattle.coding.specs.Words.{trackers_coded}

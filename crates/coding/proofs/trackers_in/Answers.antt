@@ -1,6 +1,5 @@
 -- `trackers_in` meets its contract. The invariant: the first x trackers are those of the first x places.
 use mathlib.Core.Path.{◌≡◌, refl, ◌∙◌}
-use Prim.Native.Nat.{◌-◌}
 use lib.ListN.{length-set, replicate}
 use Rattle.coding.specs.Words.{trackers_to}
 use Rattle.coding.proofs.Turns.{coding, tracker-read, trackers-read}

@@ -1,10 +1,6 @@
 -- `shown_at` meets its contract, way by way: refused; in a line; under bit 0; in memory.
 use mathlib.Core.Path.{◌≡◌, sym, ap, ◌∙◌}
-use mathlib.Core.Bool.{true}
-use Prim.Native.Nat.{◌*◌, ◌≤◌, ◌<◌}
 use lib.ListN.{length}
-use Rattle.geometry.specs.Shape.{top_of}
-use Rattle.geometry.specs.TagMemory.{in_limits_of, most_lines}
 use Rattle.rules.specs.Calls.{show_no}
 use Rattle.cache.specs.Seen.{seen}
 use Rattle.cache.proofs.Refusals.{show-in}

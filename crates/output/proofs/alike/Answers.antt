@@ -1,5 +1,4 @@
 -- `output::alike` meets its contract: so far every byte is the same. A length that does not suffice, or a byte that differs, decides it.
-use Prim.Native.Nat.{◌-◌}
 use mathlib.Core.Path.{◌≡◌}
 use borrow.Author.Tests.{eq-eqb}
 use Rattle.laws.proofs.Scan.{all-zero, all_more}

@@ -1,5 +1,4 @@
 -- `output::value` meets its contract: so far every byte is a hex digit. A line too short, or a byte that is none, decides it.
-use Prim.Native.Nat.{◌-◌}
 use mathlib.Core.Path.{◌≡◌, sym, ◌∙◌}
 use Rattle.laws.proofs.Scan.{all-zero, all_more}
 use Rattle.output.proofs.Lines.{value-short, value-miss, value-all}

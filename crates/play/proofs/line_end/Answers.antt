@@ -1,5 +1,4 @@
 -- `line_end` meets its contract: no byte passed was a newline.
-use Prim.Native.Nat.{◌-◌}
 use native.Mathlib.Omega.{arith}
 use Rattle.play.proofs.Ways.{end-start, end-hit, end-miss, end_none}
 use Rattle.play.proofs.line_end.Goals as goal

@@ -1,7 +1,7 @@
 -- `refuse_all` meets its contract: between two lines, what is left to do is all there was to do (Rest).
 use borrow.Author.Rules.{rules}
 use mathlib.Core.Path.{refl, sym, ◌∙◌}
-use Prim.Native.Nat.{◌≤◌, ◌<◌, ◌-◌}
+use Prim.Native.Nat.{◌≤◌, ◌<◌}
 use native.Mathlib.Omega.{arith}
 use lib.ListN.{length}
 use Rattle.play.specs.Play.{refuses, starts, refuses_all}

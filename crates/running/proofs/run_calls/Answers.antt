@@ -1,7 +1,7 @@
 -- `run_calls` meets its contract: between two calls, what is done is the first of them (Going).
 use borrow.Author.Rules.{rules}
 use mathlib.Core.Path.{refl, ◌∙◌}
-use Prim.Native.Nat.{◌<◌, ◌-◌}
+use Prim.Native.Nat.{◌<◌}
 use native.Mathlib.Omega.{arith}
 use Rattle.running.proofs.Going.{going_start, going-call, going-named, going-stops}
 use Rattle.running.proofs.run_calls.Goals as goal

@@ -1,5 +1,4 @@
 -- `salvage::take_records` meets its contract: the first i records are taken.
-use Prim.Native.Nat.{◌-◌}
 use mathlib.Core.Path.{◌≡◌, refl}
 use native.Mathlib.Omega.{arith}
 use borrow.Author.Rules.{rules}

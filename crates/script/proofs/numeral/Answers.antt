@@ -1,6 +1,6 @@
 -- `script::numeral` meets its contract: the bytes passed are digits, and v is what they spell.
 use mathlib.Core.Path.{◌≡◌, sym, ◌∙◌, ap}
-use Prim.Native.Nat.{◌<◌, ◌-◌, ◌+◌, ◌*◌}
+use Prim.Native.Nat.{◌<◌, ◌+◌, ◌*◌}
 use native.Mathlib.Omega.{arith}
 use lib.ListN.{length}
 use Rattle.laws.proofs.Scan.{all-zero}

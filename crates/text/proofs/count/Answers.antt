@@ -1,6 +1,5 @@
 -- `text::count` meets its contract: v has more than i digits, and `top` is 10 to the i + 1.
 use mathlib.Core.Path.{refl}
-use Prim.Native.Nat.{◌-◌}
 use native.Mathlib.Omega.{arith}
 use Rattle.wording.proofs.Numbers.{power-fits, next_power, places_is, twenty}
 use Rattle.text.proofs.count.Goals as goal

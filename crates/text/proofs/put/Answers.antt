@@ -1,6 +1,5 @@
 -- `text::put` meets its contract: the i bytes passed are copied.
 use mathlib.Core.Path.{◌∙◌}
-use Prim.Native.Nat.{◌-◌}
 use native.Mathlib.Omega.{arith}
 use lib.ListN.{length-set}
 use Rattle.text.proofs.Writes.{copy-none, copy_more, copy-all}
