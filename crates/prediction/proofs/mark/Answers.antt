@@ -1,5 +1,5 @@
 -- A write of zero leaves the bits; any other sets the bit of the group's run.
-use mathlib.Core.Path.{sym, ◌∙◌}
+use mathlib.Core.Path.{sym}
 use Rattle.prediction.specs.Runs.{run_of}
 use Rattle.prediction.proofs.Under.{marked-not, marked-is}
 use Rattle.prediction.proofs.mark.Goals as goal
@@ -11,4 +11,4 @@ pub returns : goal.returns
 unfolding run_of
 returns c =
     let a = c.args in
-    c.put_run_bit.ensures ∙ sym (marked-is a.c a.bits.now a.g a.v c.if-v-eq0.false)
+    cc (marked-is a.c a.bits.now a.g a.v c.if-v-eq0.false)
