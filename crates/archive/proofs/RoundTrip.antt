@@ -14,7 +14,7 @@ use Rattle.laws.proofs.Choice.{true-or-false}
 use Rattle.laws.proofs.Splice.{lt-or-ge}
 use Rattle.laws.proofs.Parts.{number_at-part}
 use Rattle.laws.proofs.Writes.{take-splice}
-use Rattle.laws.proofs.Refusal.{refusal-0, unless-0}
+use Rattle.laws.proofs.Refusals.{refusal-0, unless-0}
 use Rattle.geometry.specs.TagMemory.{groups, leaf_of, byte_of, in_limits, memory_length}
 use Rattle.geometry.proofs.Places.{leaf_of-lt, byte_of-lt}
 use Rattle.memory.specs.PlainReading.{leaf_bit, plain_group, plain_reading}

@@ -12,7 +12,7 @@ use Rattle.memory.specs.PlainReading.{plain_reading}
 use Rattle.memory.specs.True.{is_true}
 use Rattle.form.specs.Encode.{Form, Fit, version1, version2, form_for, Record, records_of, encode, image_of, old_image_of}
 use Rattle.form.specs.Test.{version_in, form_of, test_by, image_test}
-use Rattle.laws.proofs.Refusal.{refusal-0}
+use Rattle.laws.proofs.Refusals.{refusal-0}
 use Rattle.form.specs.Calls.{writing_tests, writing_refusal, writing_answer, written, restored}
 use Rattle.form.proofs.Sound.{form-old, form-new, fit-1, fit-2}
 use Rattle.form.proofs.Records.{length-below}

@@ -9,7 +9,7 @@ use lib.ListN.{length}
 use borrow.Author.Tests.{lt-ltb, le-ltb, le-leb, eq-eqb, ne_eqb, ltb-true}
 use Rattle.laws.specs.Choice.{both}
 use Rattle.laws.specs.Refusal.{Tests, refusal, unless}
-use Rattle.laws.proofs.Refusal.{refusal-0, refusal-hold, refusal-first, refusal-then, refusal-past, unless-0, unless-no}
+use Rattle.laws.proofs.Refusals.{refusal-0, refusal-hold, refusal-first, refusal-then, refusal-past, unless-0, unless-no}
 use Rattle.laws.specs.Bytes.{part}
 use Rattle.laws.specs.Scan.{all}
 use Rattle.laws.proofs.Choice.{both_true, both-false-right}

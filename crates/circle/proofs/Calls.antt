@@ -8,7 +8,7 @@ use native.Mathlib.Omega.{arith}
 use Rattle.laws.specs.Choice.{pick}
 use Rattle.laws.proofs.Choice.{true-or-false}
 use Rattle.laws.specs.Refusal.{refusal, unless}
-use Rattle.laws.proofs.Refusal.{refused-or-not}
+use Rattle.laws.proofs.Refusals.{refused-or-not}
 use Rattle.tracker.specs.declared.Access.{Access}
 use Rattle.tracker.specs.Tracker.{is_idle}
 use Rattle.tracker.specs.Tracker as Tracker

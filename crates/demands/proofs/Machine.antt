@@ -11,7 +11,7 @@ use lib.ListN.{length, set, length-set}
 use lib.Seq.{get_or-set_same, get_or-set_other}
 use borrow.Author.Tests.{ltb-true, not-true}
 use Rattle.tracker.specs.declared.Access.{Access}
-use Rattle.laws.proofs.Refusal.{refusal-hold, unless-by}
+use Rattle.laws.proofs.Refusals.{refusal-hold, unless-by}
 use Rattle.rules.specs.Calls.{issue_tests, step_tests}
 use Rattle.laws.specs.Choice.{pick, both, implies, no as negated}
 use Rattle.laws.proofs.Choice.{not-both-ways, pick-by}

@@ -8,7 +8,7 @@ use borrow.Author.Tests.{eq-eqb, not-true}
 use Rattle.laws.specs.Choice.{either}
 use Rattle.laws.specs.Refusal.{refusal}
 use Rattle.laws.proofs.Choice.{not-both-ways, both_true, either_left, either-right}
-use Rattle.laws.proofs.Refusal.{refused-or-not}
+use Rattle.laws.proofs.Refusals.{refused-or-not}
 use Rattle.laws.proofs.Scan.{all-at}
 use Rattle.tracker.specs.declared.Access.{Access}
 use Rattle.tracker.specs.declared.Tracker.{Tracker}

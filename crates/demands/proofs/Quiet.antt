@@ -9,7 +9,7 @@ use lib.Dec.{eqb, ltb}
 use lib.ListN.{get_or, set}
 use Rattle.laws.specs.Choice.{pick, both, no as negated}
 use Rattle.laws.proofs.Choice.{not-both-ways, both_left, pick-by}
-use Rattle.laws.proofs.Refusal.{unless-by}
+use Rattle.laws.proofs.Refusals.{unless-by}
 use Rattle.laws.proofs.Scan.{all-at}
 use Rattle.laws.proofs.Splice.{lt-or-ge}
 use Rattle.geometry.specs.declared.Shape.{Shape}

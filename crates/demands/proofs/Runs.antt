@@ -3,7 +3,7 @@ use mathlib.Core.Path.{◌≡◌, refl, sym, ◌∙◌, subst}
 use mathlib.Core.List.{List, [], ◌∷◌}
 use Prim.Native.Nat.{ℕ, ◌<◌}
 use Rattle.tracker.specs.declared.Access.{Access}
-use Rattle.laws.proofs.Refusal.{unless-by}
+use Rattle.laws.proofs.Refusals.{unless-by}
 use Rattle.tracker.specs.declared.Answer.{Answer}
 use Rattle.tracker.specs.declared.Answer.TheVariants.{Accepted, Wait, Moved, Read, Done, Same, No}
 use Rattle.tracker.specs.Answer.{Said, ok, wait, moved, read, done, same, says}

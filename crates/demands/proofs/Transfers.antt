@@ -9,7 +9,7 @@ use native.Mathlib.Omega.{arith}
 use lib.ListN.{length, length-append}
 use Rattle.laws.specs.Refusal.{refusal}
 use Rattle.laws.proofs.Choice.{not-both-ways, true-or-false}
-use Rattle.laws.proofs.Refusal.{refused-or-not}
+use Rattle.laws.proofs.Refusals.{refused-or-not}
 use Rattle.geometry.specs.declared.Shape.{Shape}
 use Rattle.geometry.specs.Shape.{below_top, top_of}
 use Rattle.geometry.specs.TagMemory.{length_of}

@@ -8,7 +8,7 @@ use native.Mathlib.Omega.{arith}
 use lib.ListN.{set}
 use Rattle.laws.proofs.Choice.{true-or-false}
 use Rattle.laws.specs.Refusal.{refusal, unless}
-use Rattle.laws.proofs.Refusal.{refused-or-not, unless-0, unless-no}
+use Rattle.laws.proofs.Refusals.{refused-or-not, unless-0, unless-no}
 use Rattle.geometry.specs.declared.Shape.{Shape}
 use Rattle.geometry.specs.Shape.{at_hand, top_of}
 use Rattle.geometry.proofs.Shapes.{below-hand}

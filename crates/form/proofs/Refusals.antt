@@ -8,7 +8,7 @@ use native.Mathlib.Omega.{arith}
 use lib.Dec.{eqb, leb}
 use borrow.Author.Tests.{eq-eqb, ne_eqb, le-leb, lt-leb}
 use Rattle.laws.specs.Bytes.{part, splice, fits, value, bytes, number_at}
-use Rattle.laws.proofs.Refusal.{refusal-0, refusal-first, unless-0, unless-no}
+use Rattle.laws.proofs.Refusals.{refusal-0, refusal-first, unless-0, unless-no}
 use Rattle.geometry.specs.TagMemory.{in_limits, memory_length}
 use Rattle.memory.specs.PlainReading.{sized}
 use Rattle.memory.specs.True.{is_true}

@@ -9,7 +9,7 @@ use lib.ListN.{length}
 use Rattle.laws.specs.Bytes.{part}
 use Rattle.laws.proofs.Choice.{true-or-false}
 use Rattle.laws.proofs.Splice.{lt-or-ge}
-use Rattle.laws.proofs.Refusal.{refused-or-not}
+use Rattle.laws.proofs.Refusals.{refused-or-not}
 use Rattle.geometry.specs.Shape.{top_of}
 use Rattle.line.specs.Find.{line_of}
 use Rattle.rules.specs.State.{State}

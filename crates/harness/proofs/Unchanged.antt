@@ -8,7 +8,7 @@ use native.Mathlib.Omega.{arith}
 use borrow.Author.Tests.{ne_eqb}
 use lib.ListN.{get_or, replicate}
 use Rattle.laws.specs.Refusal.{refusal}
-use Rattle.laws.proofs.Refusal.{refusal-0, refusal-hold, refused-or-not, unless-by}
+use Rattle.laws.proofs.Refusals.{refusal-0, refusal-hold, refused-or-not, unless-by}
 use Rattle.tracker.specs.declared.Access.{Access}
 use Rattle.tracker.specs.declared.Transfers.{Transfers}
 use Rattle.tracker.specs.Transfers.{none}

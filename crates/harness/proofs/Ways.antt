@@ -12,7 +12,7 @@ use Rattle.laws.specs.Choice.{pick, both, one}
 use Rattle.laws.specs.Refusal.{refusal, unless}
 use Rattle.laws.proofs.Choice.{both-when, both-false-left}
 use Rattle.laws.proofs.Splice.{lt-or-ge}
-use Rattle.laws.proofs.Refusal.{refusal-0, refusal-first, unless-0, unless-no}
+use Rattle.laws.proofs.Refusals.{refusal-0, refusal-first, unless-0, unless-no}
 use Rattle.geometry.specs.Shape.{top_of}
 use Rattle.geometry.specs.TagMemory.{groups, values}
 use Rattle.geometry.proofs.Places.{groups-most}

@@ -7,7 +7,7 @@ pub mod Scan
 pub mod Some
 pub mod Bits
 pub mod Pigeon
-pub mod Refusal
+pub mod Refusals
 pub mod Parts
 pub mod Stores
 pub mod Count

@@ -11,7 +11,7 @@ use borrow.Author.Tests.{eq-eqb, ne_eqb, lt-ltb, le-ltb}
 use Rattle.laws.specs.Choice.{both}
 use Rattle.laws.proofs.Choice.{both_true, both-false-left, both-false-right}
 use Rattle.laws.specs.Refusal.{refusal}
-use Rattle.laws.proofs.Refusal.{refusal-0, refusal-first, refusal-then, unless-0, unless-no}
+use Rattle.laws.proofs.Refusals.{refusal-0, refusal-first, refusal-then, unless-0, unless-no}
 use Rattle.geometry.specs.TagMemory.{groups, in_limits_of, in_limits, length_of, memory_length, leaf_of, map_block_of, group_place}
 use Rattle.block.specs.Block.{group_at}
 use Rattle.memory.specs.PlainReading.{bit_over, leaf_bit, counts, plain_group_of, plain_group, sized_of, reading_tests_of, plain_reading_of, plain_reading}

@@ -7,7 +7,7 @@ use lib.Dec.{eqb}
 use lib.ListN.{length}
 use borrow.Author.Tests.{eq-eqb, ne_eqb, eqb-true}
 use Rattle.laws.specs.Refusal.{refusal}
-use Rattle.laws.proofs.Refusal.{Hold, refusal-0, refusal-hold, refusal-first}
+use Rattle.laws.proofs.Refusals.{Hold, refusal-0, refusal-hold, refusal-first}
 use Rattle.geometry.specs.TagMemory.{in_limits_of, in_limits, length_of, memory_length}
 use Rattle.geometry.proofs.Limits.{in_limits-most}
 use Rattle.geometry.proofs.Levels.{leaves-most}

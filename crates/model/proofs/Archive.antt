@@ -11,7 +11,7 @@ use Rattle.laws.specs.Choice.{pick, both}
 use Rattle.laws.specs.Refusal.{refusal, unless}
 use Rattle.laws.proofs.Value.{splice-sets}
 use Rattle.laws.proofs.Stores.{splice_all}
-use Rattle.laws.proofs.Refusal.{refusal-0, refusal-first, unless-0, unless-no}
+use Rattle.laws.proofs.Refusals.{refusal-0, refusal-first, unless-0, unless-no}
 use Rattle.geometry.specs.TagMemory.{memory_length}
 use Rattle.image.specs.Test.{length_right, checks_right, rules_kept, leaves_in, form_of, image_test, test_by}
 use Rattle.image.specs.Calls.{restoring_refusal}

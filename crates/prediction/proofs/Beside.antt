@@ -9,7 +9,7 @@ use lib.ListN.{length}
 use borrow.Author.Tests.{eqb-true, eqb-false}
 use Rattle.laws.specs.Refusal.{refusal}
 use Rattle.laws.proofs.Choice.{true-or-false}
-use Rattle.laws.proofs.Refusal.{unless-by}
+use Rattle.laws.proofs.Refusals.{unless-by}
 use Rattle.geometry.specs.TagMemory.{groups}
 use Rattle.prediction.specs.Runs.{run_of, runs, run_bit, any_in}
 use Rattle.prediction.specs.Calls.{Lent, Done, lent, group_tests, read, marked, write, synchronise}

@@ -9,7 +9,7 @@ use lib.ListN.{length}
 use borrow.Author.Tests.{lt-ltb, le-ltb}
 use Rattle.laws.specs.Refusal.{refusal}
 use Rattle.laws.proofs.Splice.{lt-or-ge}
-use Rattle.laws.proofs.Refusal.{refused-or-not}
+use Rattle.laws.proofs.Refusals.{refused-or-not}
 use Rattle.geometry.specs.TagMemory.{groups, in_limits}
 use Rattle.prediction.specs.Runs.{is_run, run_of, runs, group_in, run_bit}
 use Rattle.prediction.specs.Calls.{Lent, Done, done, refused, lent_tests, fresh, read, write, synchronise}

@@ -10,7 +10,7 @@ use borrow.Author.Tests.{eqb-true, eq-eqb, ne_eqb, lt-ltb, le-ltb, ltb-true}
 use Rattle.laws.specs.Choice.{pick, both}
 use Rattle.laws.specs.Refusal.{refusal}
 use Rattle.laws.proofs.Choice.{both_left, both_right}
-use Rattle.laws.proofs.Refusal.{refusal-hold, refusal-then, unless-0, unless-no}
+use Rattle.laws.proofs.Refusals.{refusal-hold, refusal-then, unless-0, unless-no}
 use Rattle.geometry.specs.TagMemory.{groups, in_limits, block_place, group_place}
 use Rattle.geometry.proofs.Limits.{in_limits-most}
 use Rattle.geometry.proofs.Places.{groups-most}

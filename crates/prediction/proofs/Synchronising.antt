@@ -13,7 +13,7 @@ use borrow.Author.Tests.{eqb-true, eqb-false}
 use Rattle.laws.specs.Choice.{pick}
 use Rattle.laws.specs.Refusal.{refusal}
 use Rattle.laws.proofs.Choice.{true-or-false}
-use Rattle.laws.proofs.Refusal.{unless-by}
+use Rattle.laws.proofs.Refusals.{unless-by}
 use Rattle.prediction.specs.Runs.{runs, run_bit, put_run_bit, any_in}
 use Rattle.prediction.specs.Calls.{Lent, Done, lent, run_tests, fresh, write, synchronise}
 use Rattle.prediction.specs.Sequence.{Call, freshens, reads, writes, synchronises, does, told, after, Synchronised, OneUnder, Tight}

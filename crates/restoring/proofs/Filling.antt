@@ -10,7 +10,7 @@ use borrow.Author.Tests.{eq-eqb, ne_eqb}
 use Rattle.laws.specs.Choice.{pick}
 use Rattle.laws.specs.Bytes.{part, fits, put_w}
 use Rattle.laws.specs.Refusal.{refusal}
-use Rattle.laws.proofs.Refusal.{refusal-0, refusal-first, unless-0, unless-no}
+use Rattle.laws.proofs.Refusals.{refusal-0, refusal-first, unless-0, unless-no}
 use Rattle.laws.proofs.Put.{put_w-fits}
 use Rattle.geometry.specs.TagMemory.{memory_length, block_place, map_place, map_bit_of}
 use Rattle.block.specs.Block.{put_bit}

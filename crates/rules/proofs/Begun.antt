@@ -9,7 +9,7 @@ use lib.ListN.{replicate}
 use Rattle.laws.proofs.Writes.{get_d_replicate}
 use Rattle.laws.proofs.Choice.{not-both-ways}
 use Rattle.laws.specs.Refusal.{refusal, unless}
-use Rattle.laws.proofs.Refusal.{refusal-hold, refused-or-not, unless-0, unless-no, unless-by}
+use Rattle.laws.proofs.Refusals.{refusal-hold, refused-or-not, unless-0, unless-no, unless-by}
 use Rattle.memory.specs.True.{is_true_of, cleared_of}
 use Rattle.tracker.specs.Answer.{ok, no}
 use Rattle.geometry.specs.Shape.{shape_of, top_of}

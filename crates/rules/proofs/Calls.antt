@@ -15,7 +15,7 @@ use Rattle.geometry.specs.TagMemory.{groups, length_of}
 use Rattle.geometry.proofs.Shapes.{below-hand}
 use Rattle.laws.proofs.Choice.{true-or-false, both_left, both_right, both_true}
 use Rattle.laws.specs.Refusal.{refusal, unless}
-use Rattle.laws.proofs.Refusal.{refusal-0, refusal-hold, refusal-past, refused-or-not, unless-0, unless-no}
+use Rattle.laws.proofs.Refusals.{refusal-0, refusal-hold, refusal-past, refused-or-not, unless-0, unless-no}
 use Rattle.tracker.specs.declared.Access.{Access}
 use Rattle.tracker.specs.Tracker.{is_idle, holds_at, issued, first_phase}
 use Rattle.line.specs.Word.{cleaned, holders}

@@ -8,7 +8,7 @@ use lib.ListN.{length}
 use Rattle.laws.specs.Bytes.{part, splice}
 use Rattle.laws.specs.Refusal.{refusal}
 use Rattle.laws.proofs.Splice.{length-splice, part_same, part-other, lt-or-ge}
-use Rattle.laws.proofs.Refusal.{refusal-hold, unless-0}
+use Rattle.laws.proofs.Refusals.{refusal-hold, unless-0}
 use Rattle.tracker.specs.declared.Transfers.{Transfers}
 use Rattle.tracker.specs.Answer.{Said, ok, wait, moved, read, done, same, no}
 use Rattle.rules.specs.Calls.{Out}

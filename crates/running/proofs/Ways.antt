@@ -13,7 +13,7 @@ use Rattle.laws.specs.Bytes.{splice}
 use Rattle.laws.specs.Refusal.{refusal}
 use Rattle.laws.proofs.Choice.{both_left, both_right}
 use Rattle.laws.proofs.Put.{part-is, length_part, splice-is}
-use Rattle.laws.proofs.Refusal.{refusal-0, refusal-first, unless-0, unless-no}
+use Rattle.laws.proofs.Refusals.{refusal-0, refusal-first, unless-0, unless-no}
 use Rattle.geometry.specs.TagMemory.{values}
 use Rattle.tracker.specs.declared.Access.{Access}
 use Rattle.rules.specs.State.{State, lengths_right, zero_state}

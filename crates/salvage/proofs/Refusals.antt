@@ -11,7 +11,7 @@ use Rattle.laws.specs.Choice.{pick, both}
 use Rattle.laws.specs.Bytes.{splice}
 use Rattle.laws.specs.Refusal.{refusal, unless}
 use Rattle.laws.proofs.Choice.{both_true, both_left, both_right, both-false-left, both-false-right}
-use Rattle.laws.proofs.Refusal.{Hold, refusal-0, refusal-hold, refusal-first, refusal-then, refusal-past, unless-0, unless-no, unless-by}
+use Rattle.laws.proofs.Refusals.{Hold, refusal-0, refusal-hold, refusal-first, refusal-then, refusal-past, unless-0, unless-no, unless-by}
 use Rattle.sums.specs.Check.{check_right}
 use Rattle.form.specs.Encode.{version2, blocks_for}
 use Rattle.form.specs.Test.{image_block, head_sound, form_of, leaves_in, length_right}

@@ -12,7 +12,7 @@ use Rattle.laws.specs.Choice.{both}
 use Rattle.laws.specs.Bytes.{put_w, number_at}
 use Rattle.laws.specs.Refusal.{refusal}
 use Rattle.laws.proofs.Choice.{both_true, both-false-left, both-false-right}
-use Rattle.laws.proofs.Refusal.{refusal-0, refusal-first}
+use Rattle.laws.proofs.Refusals.{refusal-0, refusal-first}
 use Rattle.laws.proofs.Put.{part-is, put_w-fits}
 use Rattle.laws.proofs.Value.{splice-sets}
 use Rattle.block.specs.Block.{block_or0}

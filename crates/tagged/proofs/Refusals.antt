@@ -10,7 +10,7 @@ use borrow.Author.Tests.{eq-eqb, ne_eqb, lt-ltb, le-ltb, le-leb, lt-leb, leb-tru
 use Rattle.laws.specs.Choice.{both}
 use Rattle.laws.specs.Refusal.{refusal}
 use Rattle.laws.proofs.Choice.{both_true, both_left, both_right, both-false-left, both-false-right}
-use Rattle.laws.proofs.Refusal.{Hold, refusal-0, refusal-hold, refusal-first, refusal-then, refusal-past, unless-0, unless-no}
+use Rattle.laws.proofs.Refusals.{Hold, refusal-0, refusal-hold, refusal-first, refusal-then, refusal-past, unless-0, unless-no}
 use Rattle.laws.specs.Scan.{count_from}
 use Rattle.geometry.specs.TagMemory.{leaf_of, groups, memory_length}
 use Rattle.geometry.proofs.Places.{groups-most}

@@ -10,7 +10,7 @@ use lib.Seq.{set-get_or}
 use borrow.Author.Tests.{lt-ltb, le-ltb}
 use Rattle.laws.specs.Choice.{pick}
 use Rattle.laws.specs.Refusal.{refusal, unless}
-use Rattle.laws.proofs.Refusal.{refused-or-not, unless-0, unless-no}
+use Rattle.laws.proofs.Refusals.{refused-or-not, unless-0, unless-no}
 use Rattle.laws.proofs.Choice.{true-or-false}
 use Rattle.laws.proofs.Splice.{lt-or-ge}
 use Rattle.geometry.specs.TagMemory.{most_trackers}

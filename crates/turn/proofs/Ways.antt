@@ -7,7 +7,7 @@ use borrow.Author.Tests.{ltb-true, lt-ltb, le-ltb}
 use Rattle.laws.specs.Choice.{pick}
 use Rattle.laws.specs.Refusal.{refusal}
 use Rattle.laws.specs.Scan.{all}
-use Rattle.laws.proofs.Refusal.{refusal-hold, unless-0, unless-no}
+use Rattle.laws.proofs.Refusals.{refusal-hold, unless-0, unless-no}
 use Rattle.geometry.specs.declared.Shape.{Shape}
 use Rattle.tracker.specs.declared.Access.{Access}
 use Rattle.tracker.specs.declared.Tracker.{Tracker}

@@ -2,7 +2,7 @@
 use mathlib.Core.Path.{sym}
 use mathlib.Core.List.{[]}
 use native.Mathlib.Omega.{arith}
-use Rattle.laws.proofs.Refusal.{unless-0, unless-no}
+use Rattle.laws.proofs.Refusals.{unless-0, unless-no}
 use Rattle.reader.proofs.accepted.Goals as goal
 
 pub returns-then-refusal-eq0 : goal.returns-then-refusal-eq0
