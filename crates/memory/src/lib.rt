@@ -5,7 +5,7 @@
 ghost use Rattle.std.specs.Prelude.{◌≡◌, ◌+◌, ◌-◌, ◌*◌, ◌≤◌, ◌<◌, length};
 ghost use Rattle.laws.specs.Refusal.{refusal, refused_with, given};
 ghost use Rattle.geometry.specs.TagMemory.{count, base, block_place};
-ghost use Rattle.memory.specs.PlainReading.{bit_over, counts, plain_group_of, plain_group, sized_of, sized, plain_reading_of, plain_reading};
+ghost use Rattle.memory.specs.PlainReading.{bit_over, next_marked, counts, plain_group_of, plain_group, sized_of, sized, plain_reading_of, plain_reading};
 ghost use Rattle.memory.specs.True.{map_word, true_word, true_block, true_level, is_true_of, is_true, cleared_of, cleared_map};
 
 use geometry::Geometry;
@@ -99,6 +99,21 @@ pub fn map_word(n: u32, memory: &[u8], i: u32) -> u32
         memory,
         Geometry::block_place(n) + Geometry::GROUP_LEN * (i as usize),
     )
+}
+
+// The first leaf from k up to but not including end with bit 1; end where there is none. What is zero of a word of the map, from k's bit on, is passed over at once.
+pub fn next_marked(n: u32, memory: &[u8], k: u32, end: u32) -> u32
+    ensures { result ≡ next_marked n memory.now k end }
+{
+    let mut j = k;
+    while j < end {
+        let rest = map_word(n, memory, j / WORD_BITS) >> (j % WORD_BITS);
+        if rest != 0 {
+            return end.min(j + rest.trailing_zeros());
+        }
+        j += (WORD_BITS - j % WORD_BITS).min(end - j);
+    }
+    end
 }
 
 // Of the bits of word i over the given number of blocks from block `first` on, those that are 1: each stands over one of them, which is not all zero.
