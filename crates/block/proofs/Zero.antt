@@ -1,10 +1,9 @@
 -- The zero test says that every byte is zero, both ways; and how a loop comes to it.
 use mathlib.Core.Path.{◌≡◌, refl, ap, sym, ◌∙◌}
 use mathlib.Core.Bool.{Bool, true, false}
-use mathlib.Core.List.{List}
+use mathlib.Core.List.{List, [], ◌∷◌}
 use mathlib.Core.Logic.{⊎_elim}
-use Prim.Native.Nat.{ℕ, zero, suc, ◌+◌, ◌≤◌, ◌<◌}
-use native.Mathlib.Numerals.{add-one}
+use Prim.Native.Nat.{ℕ, zero, suc, ◌<◌}
 use native.Mathlib.Omega.{arith}
 use lib.Bits.{bit_or, or_zero_r, or_add_and, and_le_l}
 use lib.Dec.{eqb}
@@ -14,7 +13,7 @@ use Rattle.laws.specs.Choice.{both}
 use Rattle.laws.specs.Scan.{all}
 use Rattle.laws.proofs.Choice.{not-both-ways, true-or-false, both-false-right}
 use Rattle.laws.proofs.Scan.{all-at, all-is, all-fails}
-use Rattle.laws.proofs.Splice.{lt-or-ge}
+use Rattle.std.specs.List.{fold}
 use Rattle.block.specs.Block.{all_zero}
 
 both_one : (a : Bool) → both a true ≡ a
@@ -53,37 +52,33 @@ all_zero-some m h =
     let q : (i : ℕ) × (i < length m) × (eqb (get_or m i 0) 0 ≡ false) = all-some (λ (j : ℕ). eqb (get_or m j 0) 0) (length m) h in
     (q.0, q.1, eqb-false (get_or m q.0 0) 0 q.2)
 
--- the bytes below i are zero
-abbrev pub zero_below : List ℕ → ℕ → Bool
-zero_below m i = all (λ (j : ℕ). eqb (get_or m j 0) 0) i
+both_assoc : (a b c : Bool) → both a (both b c) ≡ both (both a b) c
+unfolding both
+both_assoc true b c = refl
+both_assoc false b c = refl
 
-pub zero-start : (m : List ℕ) → zero_below m 0 ≡ true
-unfolding all
-zero-start m = refl
+-- from the front
+all-front : (p : ℕ → Bool) (n : ℕ) → all p (suc n) ≡ both (p 0) (all (λ i. p (suc i)) n)
+unfolding all both
+all-front p zero = sym (both_one (p 0))
+all-front p (suc n) = ap (λ (b : Bool). both b (p (suc n))) (all-front p n) ∙ sym (both_assoc (p 0) (all (λ i. p (suc i)) n) (p (suc n)))
 
-module _ (m : List ℕ) (i : ℕ) where
-  zero-next : zero_below m (i + 1) ≡ both (zero_below m i) (eqb (get_or m i 0) 0)
-  unfolding all
-  zero-next = rw add-one
+or_zero : (a x : ℕ) → eqb (bit_or a x) 0 ≡ both (eqb a 0) (eqb x 0)
+unfolding both
+or_zero a zero = ap (λ (n : ℕ). eqb n 0) (or_zero_r a) ∙ sym (both_one (eqb a 0))
+or_zero a (suc x) =
+    ne_eqb _ _ (λ (z : bit_or a (suc x) ≡ 0). absurd (omega (arith, or_add_and a (suc x), and_le_l a (suc x)))) ∙ sym (both-false-right (eqb a 0) _ (ne_eqb (suc x) 0 (λ (z : suc x ≡ 0). absurd (omega arith))))
 
-  -- a zero byte leaves what was found
-  pub zero_more : get_or m i 0 ≡ 0 → zero_below m (i + 1) ≡ zero_below m i
-  zero_more h = zero-next ∙ rw (eq-eqb (get_or m i 0) 0 h) (both_one (zero_below m i))
+-- the bits that are 1 in any byte are none exactly if all bytes are zero
+fold_zero : (any : ℕ) (m : List ℕ) → eqb (fold bit_or any m) 0 ≡ both (eqb any 0) (all_zero m)
+unfolding all both all_zero
+fold_zero any [] = sym (both_one (eqb any 0))
+fold_zero any (x ∷ xs) =
+    fold_zero (bit_or any x) xs
+    ∙ ap (λ (b : Bool). both b (all_zero xs)) (or_zero any x)
+    ∙ sym (both_assoc (eqb any 0) (eqb x 0) (all_zero xs))
+    ∙ ap (both (eqb any 0)) (sym (all-front (λ j. eqb (get_or (x ∷ xs) j 0) 0) (length xs)))
 
-  -- another ends it
-  pub zero-less : (get_or m i 0 ≡ 0 → ⊥) → zero_below m (i + 1) ≡ false
-  zero-less h = zero-next ∙ both-false-right (zero_below m i) _ (ne_eqb (get_or m i 0) 0 h)
-
-  -- the bits that are 1 in any byte so far are none exactly if all bytes are zero
-  pub any-more : (any : ℕ) → eqb any 0 ≡ zero_below m i → eqb (bit_or any (get_or m i 0)) 0 ≡ zero_below m (i + 1)
-  any-more any e =
-      ⊎_elim
-      (λ (q : get_or m i 0 < 1). let z : get_or m i 0 ≡ 0 = omega arith in rw z (ap (λ (x : ℕ). eqb x 0) (or_zero_r any)) ∙ e ∙ sym (zero_more z))
-      (λ (q : 1 ≤ get_or m i 0).
-      let ne : get_or m i 0 ≡ 0 → ⊥ = λ z. absurd (omega arith) in
-      ne_eqb _ _ (λ (z : bit_or any (get_or m i 0) ≡ 0). absurd (omega (arith, or_add_and any (get_or m i 0), and_le_l any (get_or m i 0)))) ∙ sym (zero-less ne))
-      (lt-or-ge (get_or m i 0) 1)
-
-  pub zero-end : i ≡ length m → zero_below m i ≡ all_zero m
-  unfolding all_zero
-  zero-end h = rw h
+pub zero-folded : (m : List ℕ) → eqb (fold bit_or 0 m) 0 ≡ all_zero m
+unfolding both
+zero-folded m = fold_zero 0 m

@@ -2,7 +2,7 @@
 // No public function has a `requires`: a read of what is not there gives zero, a write of it changes nothing.
 #![tactic(auto)]
 
-ghost use Rattle.std.specs.Prelude.{◌≡◌, ◌+◌, ◌*◌, ◌^◌, ◌≤◌, ◌<◌, length, get_or, replicate};
+ghost use Rattle.std.specs.Prelude.{◌≡◌, ◌+◌, ◌*◌, ◌^◌, ◌≤◌, ◌<◌, ◌↔◌, IsTrue, length, get_or, replicate};
 ghost use Rattle.laws.specs.Choice.{pick};
 ghost use Rattle.laws.specs.Bytes.{part, splice, fits, put_w, value, bytes, number_at};
 ghost use Rattle.laws.specs.Bits.{bit_of, with_bit};
@@ -10,11 +10,11 @@ ghost use Rattle.block.specs.Block.{block_or0, group_at, put_group, bit_at, put_
 
 use geometry::Geometry;
 
-// Four bytes as a number, low byte first.
-fn join(a: u8, b: u8, c: u8, d: u8) -> u32
-    ensures { result ≡ a + 256 * b + 65536 * c + 16777216 * d }
+// The row has n bytes from `at`.
+fn has(row: &[u8], at: usize, n: usize) -> bool
+    ensures { IsTrue result ↔ (at + n ≤ length row.now) }
 {
-    a as u32 + 256 * (b as u32) + 65536 * (c as u32) + 16777216 * (d as u32)
+    at <= row.len() && n <= row.len() - at
 }
 
 // The number whose four bytes begin at `at`.
@@ -22,17 +22,14 @@ fn word_at(row: &[u8], at: usize) -> u32
     requires { at + 4 ≤ length row.now }
     ensures { result ≡ number_at 4 row.now at }
 {
-    join(row[at], row[at + 1], row[at + 2], row[at + 3])
+    u32::from_le_bytes([row[at], row[at + 1], row[at + 2], row[at + 3]])
 }
 
 // The byte at `at`; 0 where there is none.
 fn byte_at(row: &[u8], at: usize) -> u8
     ensures { result ≡ get_or row.now at 0 }
 {
-    if row.len() <= at {
-        return 0;
-    }
-    row[at]
+    row.get(at).copied().unwrap_or(0)
 }
 
 // The number whose four bytes begin at `at`; a byte that is not there counts 0.
@@ -45,12 +42,12 @@ pub fn number_at(row: &[u8], at: usize) -> u32
     if Geometry::GROUP_LEN <= row.len() - at {
         return word_at(row, at);
     }
-    join(
+    u32::from_le_bytes([
         row[at],
         byte_at(row, at + 1),
         byte_at(row, at + 2),
         byte_at(row, at + 3),
-    )
+    ])
 }
 
 // The number v into the four bytes from `at`.
@@ -58,50 +55,16 @@ fn put_word(row: &mut [u8], at: usize, v: u32)
     requires { at + 4 ≤ length row.old }
     ensures { row.new ≡ splice row.old at (bytes 4 v) }
 {
-    row[at] = (v % 256) as u8;
-    row[at + 1] = (v / 256 % 256) as u8;
-    row[at + 2] = (v / 256 / 256 % 256) as u8;
-    row[at + 3] = (v / 256 / 256 / 256 % 256) as u8;
-}
-
-// Sixteen bytes of src from `at` to the same places of dst. All four words are read before one is stored: so they move as one.
-fn copy_words(dst: &mut [u8], src: &[u8], at: usize)
-    requires { (at + 16 ≤ length dst.old) × (at + 16 ≤ length src.now) }
-    ensures { dst.new ≡ splice dst.old at (part src.now at 16) }
-{
-    let a = word_at(src, at);
-    let b = word_at(src, at + 4);
-    let c = word_at(src, at + 8);
-    let d = word_at(src, at + 12);
-    put_word(dst, at, a);
-    put_word(dst, at + 4, b);
-    put_word(dst, at + 8, c);
-    put_word(dst, at + 12, d);
-}
-
-// All of src into dst, a block each.
-fn copy_bytes(dst: &mut [u8], src: &[u8])
-    requires { (length dst.old ≡ 64) × (length src.now ≡ 64) }
-    ensures { dst.new ≡ src.now }
-{
-    let mut at = 0;
-    while at < Geometry::BLOCK_LEN {
-        copy_words(dst, src, at);
-        at += 16;
-    }
+    row[at..at + 4].copy_from_slice(&v.to_le_bytes());
 }
 
 // The block into memory's part from `at`; where it does not fit, memory stays as it was.
 pub fn write_block(memory: &mut [u8], at: usize, block: &[u8; Geometry::BLOCK_LEN])
     ensures { memory.new ≡ put_w 64 memory.old at block.now }
 {
-    if memory.len() < Geometry::BLOCK_LEN {
-        return;
+    if has(memory, at, Geometry::BLOCK_LEN) {
+        memory[at..at + Geometry::BLOCK_LEN].copy_from_slice(block);
     }
-    if memory.len() - Geometry::BLOCK_LEN < at {
-        return;
-    }
-    copy_bytes(&mut memory[at..at + Geometry::BLOCK_LEN], block);
 }
 
 // The block at `at`; zeros where its bytes are not all there.
@@ -109,13 +72,9 @@ pub fn read_block(memory: &[u8], at: usize) -> [u8; Geometry::BLOCK_LEN]
     ensures { result ≡ block_or0 memory.now at }
 {
     let mut block = [0u8; Geometry::BLOCK_LEN];
-    if memory.len() < Geometry::BLOCK_LEN {
-        return block;
+    if has(memory, at, Geometry::BLOCK_LEN) {
+        block.copy_from_slice(&memory[at..at + Geometry::BLOCK_LEN]);
     }
-    if memory.len() - Geometry::BLOCK_LEN < at {
-        return block;
-    }
-    copy_bytes(&mut block, &memory[at..at + Geometry::BLOCK_LEN]);
     block
 }
 
@@ -123,48 +82,27 @@ pub fn read_block(memory: &[u8], at: usize) -> [u8; Geometry::BLOCK_LEN]
 pub fn copy_block(memory: &mut [u8], at: usize, row: &[u8], from: usize)
     ensures { memory.new ≡ pick (fits row.now from 64) (put_w 64 memory.old at (part row.now from 64)) memory.old }
 {
-    if row.len() < Geometry::BLOCK_LEN {
-        return;
+    if has(row, from, Geometry::BLOCK_LEN) && has(memory, at, Geometry::BLOCK_LEN) {
+        memory[at..at + Geometry::BLOCK_LEN].copy_from_slice(
+            &row[from..from + Geometry::BLOCK_LEN],
+        );
     }
-    if row.len() - Geometry::BLOCK_LEN < from {
-        return;
-    }
-    if memory.len() < Geometry::BLOCK_LEN {
-        return;
-    }
-    if memory.len() - Geometry::BLOCK_LEN < at {
-        return;
-    }
-    copy_bytes(
-        &mut memory[at..at + Geometry::BLOCK_LEN],
-        &row[from..from + Geometry::BLOCK_LEN],
-    );
 }
 
 // The number whose four bytes begin at `at`; 0 where they are not all there.
 pub fn four_at(row: &[u8], at: usize) -> u32
     ensures { result ≡ number_at 4 row.now at }
 {
-    if row.len() < 4 {
-        return 0;
-    }
-    if row.len() - 4 < at {
-        return 0;
-    }
-    word_at(row, at)
+    if has(row, at, 4) { word_at(row, at) } else { 0 }
 }
 
 // The number v into its four bytes from `at`; where they do not fit, nothing changes.
 pub fn put_four(row: &mut [u8], at: usize, v: u32)
     ensures { row.new ≡ put_w 4 row.old at (bytes 4 v) }
 {
-    if row.len() < 4 {
-        return;
+    if has(row, at, 4) {
+        put_word(row, at, v);
     }
-    if row.len() - 4 < at {
-        return;
-    }
-    put_word(row, at, v);
 }
 
 // The group at `at`; 0 where its bytes are not all there.
@@ -185,24 +123,14 @@ pub fn put_group(row: &mut [u8], at: usize, v: u32)
 pub fn all_zero(row: &[u8]) -> bool
     ensures { result ≡ all_zero row.now }
 {
-    let mut any: u8 = 0;
-    let mut i = 0;
-    while i < row.len() {
-        any = any | row[i];
-        i += 1;
-    }
-    any == 0
+    row.iter().fold(0, |any: u8, x| any | *x) == 0
 }
 
 // Every byte is made zero.
 pub fn clear(row: &mut [u8])
     ensures { row.new ≡ replicate (length row.old) 0 }
 {
-    let mut at = 0;
-    while at < row.len() {
-        row[at] = 0;
-        at += 1;
-    }
+    row.fill(0);
 }
 
 // Bit k of a byte, bit 0 lowest; 0 past the last.
@@ -219,10 +147,7 @@ pub fn bit_of(x: u8, k: u32) -> u8
 pub fn bit_at(row: &[u8], at: usize, k: u32) -> u8
     ensures { result ≡ bit_at row.now at k }
 {
-    if row.len() <= at {
-        return 0;
-    }
-    bit_of(row[at], k)
+    bit_of(byte_at(row, at), k)
 }
 
 // The number of a byte's bit k alone.
@@ -255,12 +180,8 @@ fn with_bit(x: u8, k: u32, v: bool) -> u8
 pub fn put_bit(row: &mut [u8], at: usize, k: u32, v: bool)
     ensures { row.new ≡ put_bit row.old at k (pick v 1 0) }
 {
-    if Geometry::BYTE_BITS <= k {
-        return;
+    if k < Geometry::BYTE_BITS && at < row.len() {
+        let x = with_bit(row[at], k, v);
+        row[at] = x;
     }
-    if row.len() <= at {
-        return;
-    }
-    let x = with_bit(row[at], k, v);
-    row[at] = x;
 }

@@ -1,6 +1,6 @@
 // 01 "The tag memory": the limits and the address rules, as a type of their own; and the shape of a cache over such a memory.
 // No public function has a `requires`: the number of a leaf, a group or a block is 32 bits wide, and places are counted in 64.
-#![tactic(auto)]
+#![tactic(auto, unfolding(laws::specs::Choice::both, crate::specs::TagMemory::in_limits_of, crate::specs::TagMemory::leaf_of, crate::specs::TagMemory::byte_of, crate::specs::TagMemory::groups, crate::specs::TagMemory::map_block_of, crate::specs::TagMemory::map_byte_of, crate::specs::TagMemory::map_bit_of, crate::specs::TagMemory::map_blocks, crate::specs::Shape::below_top))]
 
 ghost use Rattle.std.specs.Prelude.{◌≡◌, ◌+◌, ◌≤◌};
 ghost use Rattle.geometry.specs.Shape.{shape_of, at_hand, below_top, top_of};
@@ -41,26 +41,18 @@ impl Geometry {
     fn most_leaves(top: u8) -> u64
         ensures { result ≡ most_leaves_of top }
     {
-        if top == 1 {
-            return Self::MOST_LEAVES;
+        match top {
+            1 => Self::MOST_LEAVES,
+            2 => Self::MOST_LEAVES_3,
+            _ => 0,
         }
-        if top == 2 {
-            return Self::MOST_LEAVES_3;
-        }
-        0
     }
 
     // n is a number of leaves that a memory of this top level can have.
     pub fn in_limits_of(top: u8, n: u64) -> bool
         ensures { result ≡ in_limits_of top n }
     {
-        if n < 1 {
-            return false;
-        }
-        if Self::most_leaves(top) < n {
-            return false;
-        }
-        true
+        1 <= n && n <= Self::most_leaves(top)
     }
 
     // n is a number of leaves that a memory of two levels can have.
@@ -81,7 +73,7 @@ impl Geometry {
     pub fn groups(n: u32) -> u64
         ensures { result ≡ groups n }
     {
-        Self::GROUPS as u64 * (n as u64)
+        u64::from(Self::GROUPS) * u64::from(n)
     }
 
     // The place of group g's first byte in its leaf.
@@ -117,10 +109,8 @@ impl Geometry {
         ensures { result ≡ index e g }
     {
         let mut k = Self::leaf_of(g);
-        let mut i: u8 = 0;
-        while i < e {
+        for _i in 0..e {
             k = Self::map_block_of(k);
-            i += 1;
         }
         k
     }
@@ -129,7 +119,7 @@ impl Geometry {
     pub fn map_blocks(n: u32) -> u64
         ensures { result ≡ map_blocks n }
     {
-        (n as u64 + (Self::BITS as u64 - 1)) / (Self::BITS as u64)
+        u64::from(n).div_ceil(u64::from(Self::BITS))
     }
 
     // The blocks of all levels below e, over n leaves.
@@ -139,11 +129,9 @@ impl Geometry {
     {
         let mut below: u64 = 0;
         let mut blocks = n;
-        let mut i: u32 = 0;
-        while i < e {
-            below += blocks as u64;
+        for _i in 0..e {
+            below += u64::from(blocks);
             blocks = Self::map_blocks(blocks) as u32;
-            i += 1;
         }
         below
     }
@@ -152,14 +140,14 @@ impl Geometry {
     pub fn block_over(e: u8, n: u32, g: u32) -> u64
         ensures { result ≡ block_over e n g }
     {
-        Self::base(e as u32, n) + (Self::index(e, g) as u64)
+        Self::base(u32::from(e), n) + u64::from(Self::index(e, g))
     }
 
     // The blocks of a memory of n leaves and this top level.
     pub fn blocks_of(top: u8, n: u32) -> u64
         ensures { result ≡ blocks_of top n }
     {
-        Self::base(top as u32 + 1, n)
+        Self::base(u32::from(top) + 1, n)
     }
 
     // The bytes of a memory of n leaves and this top level.
@@ -180,7 +168,7 @@ impl Geometry {
     pub fn map_number(n: u32, k: u32) -> u64
         ensures { result ≡ n + map_block_of k }
     {
-        n as u64 + (Self::map_block_of(k) as u64)
+        u64::from(n) + u64::from(Self::map_block_of(k))
     }
 
     // The place in memory of block b.
@@ -240,11 +228,6 @@ impl Shape {
     pub fn at_hand(self, h: usize) -> Shape
         ensures { result ≡ at_hand self h }
     {
-        Shape {
-            n: self.n,
-            t: self.t,
-            l: self.l,
-            hand: h,
-        }
+        Shape { hand: h, ..self }
     }
 }

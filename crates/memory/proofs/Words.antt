@@ -1,16 +1,19 @@
 -- The search for a leaf with bit 1 by words of the map: what a word, from leaf j's bit on, says of j and the leaves after it.
 use mathlib.Core.Path.{◌≡◌, ap, sym, ◌∙◌}
+use mathlib.Core.Bool.{true, false}
 use mathlib.Core.List.{List}
 use mathlib.Core.Logic.{⊎_elim}
-use Prim.Native.Nat.{ℕ, ◌+◌, ◌-◌, ◌*◌, ◌/◌, ◌%◌, ◌^◌, ◌≤◌, ◌<◌}
+use Prim.Native.Nat.{ℕ, ◌+◌, ◌-◌, ◌*◌, ◌/◌, ◌%◌, ◌^◌, ◌≤◌, ◌<◌, min}
 use native.Mathlib.Nat.{div-le_self}
 use native.Mathlib.Omega.{arith}
+use borrow.Author.Tests.{eq-eqb, ne_eqb}
 use lib.Count.{count_trailing_zeros}
 use Rattle.laws.specs.Bits.{bit_of}
 use Rattle.laws.specs.Bytes.{Bytes}
 use Rattle.laws.proofs.Bits.{bit_of-0, bit_of-shr, bit_of-past, lowest-one, lowest-below}
 use Rattle.laws.proofs.Splice.{lt-or-ge}
-use Rattle.memory.specs.PlainReading.{leaf_bit}
+use Rattle.laws.proofs.Scan.{first_from-hit, first_from-none, first_from-skip}
+use Rattle.memory.specs.PlainReading.{leaf_bit, marked, next_marked}
 use Rattle.memory.specs.True.{map_word}
 use Rattle.memory.proofs.Truth.{word-bit}
 
@@ -38,7 +41,7 @@ module _ (n : ℕ) (m : List ℕ) (B : Bytes m) (j word rest : ℕ) (w : word �
     lowest : (zeros < 32) × (bit_of rest zeros ≡ 1)
     lowest = lowest-one 32 rest (⊎_elim (λ (z : rest < 1). absurd (some (omega arith))) (λ (z : 1 ≤ rest). omega arith) (lt-or-ge rest 1)) small
 
-    in-it : j % 32 + zeros < 32
+    pub in-it : j % 32 + zeros < 32
     in-it =
         ⊎_elim
         (λ h. h)
@@ -52,3 +55,34 @@ module _ (n : ℕ) (m : List ℕ) (B : Bytes m) (j word rest : ℕ) (w : word �
 
     pub none_before : (k : ℕ) → j ≤ k → k < j + zeros → leaf_bit n m k ≡ 0
     none_before k a h = sym (rest-bit k a (omega (arith, in-it))) ∙ lowest-below 32 rest (k - j) (omega arith)
+
+-- leaves with bit 1, from leaf k on
+module _ (n : ℕ) (m : List ℕ) where
+  marked-not : (k : ℕ) → leaf_bit n m k ≡ 0 → marked n m k ≡ false
+  unfolding marked
+  marked-not k h = ne_eqb (leaf_bit n m k) 1 (λ o. absurd (omega arith))
+
+  marked-is : (k : ℕ) → leaf_bit n m k ≡ 1 → marked n m k ≡ true
+  unfolding marked
+  marked-is k h = eq-eqb (leaf_bit n m k) 1 h
+
+  -- past leaves with bit 0
+  pub skip-leaves : (k j end : ℕ) → k ≤ j → ((x : ℕ) → k ≤ x → x < j → leaf_bit n m x ≡ 0) → next_marked n m j end ≡ next_marked n m k end
+  unfolding next_marked
+  skip-leaves k j end h z = first_from-skip (marked n m) k j end h (λ c q r. marked-not c (z c q r))
+
+  -- up to one with bit 1, or the end
+  pub hit-leaf : (k r end : ℕ) → k ≤ r → ((x : ℕ) → k ≤ x → x < r → leaf_bit n m x ≡ 0) → leaf_bit n m r ≡ 1 → min end r ≡ next_marked n m k end
+  unfolding next_marked
+  hit-leaf k r end h z o =
+      ⊎_elim
+      (λ (l : r < end). let e : min end r ≡ r = omega arith in
+      e ∙ sym (first_from-hit (marked n m) r end l (marked-is r o)) ∙ first_from-skip (marked n m) k r end h (λ c q s. marked-not c (z c q s)))
+      (λ (l : end ≤ r). let e : min end r ≡ end = omega arith in
+      e ∙ sym (first_from-none (marked n m) k end (λ c q s. marked-not c (z c q (omega arith)))))
+      (lt-or-ge r end)
+
+  -- the end is reached
+  pub no-leaf : (k end : ℕ) → end ≤ k → end ≡ next_marked n m k end
+  unfolding next_marked
+  no-leaf k end h = sym (first_from-none (marked n m) k end (λ c q r. absurd (omega arith)))

@@ -2,6 +2,7 @@
 use Rattle.std.specs.Prelude.{List, [], ◌∷◌, ◌++◌, Bool, true, ℕ, zero, suc, ◌+◌, length, eqb, ltb}
 use Rattle.geometry.specs.TagMemory.{groups, leaf_of, in_limits_of, length_of, map_block_of, map_bit_of, group_place, bit_place}
 use Rattle.laws.specs.Choice.{pick, both}
+use Rattle.laws.specs.Scan.{first_from}
 use Rattle.laws.specs.Refusal.{Tests, refusal, unless}
 use Rattle.block.specs.Block.{group_at, bit_at}
 
@@ -11,6 +12,13 @@ bit_over e n m k = bit_at m (bit_place e n k) (map_bit_of k)
 
 unfoldable pub leaf_bit : ℕ → List ℕ → ℕ → ℕ
 leaf_bit n m k = bit_over 0 n m k
+
+-- leaf k has bit 1; the first such leaf from k up to but not including end, and end where there is none
+unfoldable pub marked : ℕ → List ℕ → ℕ → Bool
+marked n m k = eqb (leaf_bit n m k) 1
+
+unfoldable pub next_marked : ℕ → List ℕ → (k end : ℕ) → ℕ
+next_marked n m k end = first_from (marked n m) k end
 
 -- Block k of level e counts, which is d levels below the top: a top block always, another if its bit is 1 in a block that counts.
 -- "Under top bit 0 the map block is stale and counts as zeros"

@@ -1,17 +1,15 @@
 // The tag memory on lent bytes: 01 "The tag memory". Plain reading, the true test, and clearing the map.
 // No public function has a `requires`: a byte that is not there reads as zero, and a refusal names what was wrong.
-#![tactic(auto)]
+#![tactic(auto, unfolding(crate::specs::PlainReading::plain_group, crate::specs::PlainReading::plain_reading, crate::specs::True::is_true, crate::specs::True::cleared_map, crate::specs::True::map_word))]
 
 ghost use Rattle.std.specs.Prelude.{◌≡◌, ◌+◌, ◌-◌, ◌*◌, ◌≤◌, ◌<◌, length};
-ghost use Rattle.laws.specs.Refusal.{refusal};
+ghost use Rattle.laws.specs.Refusal.{refusal, refused_with, given};
 ghost use Rattle.geometry.specs.TagMemory.{count, base, block_place};
-ghost use Rattle.memory.specs.PlainReading.{bit_over, counts, plain_group_of, plain_group, sized_of, sized, plain_reading_of, plain_reading};
+ghost use Rattle.memory.specs.PlainReading.{bit_over, next_marked, counts, plain_group_of, plain_group, sized_of, sized, plain_reading_of, plain_reading};
 ghost use Rattle.memory.specs.True.{map_word, true_word, true_block, true_level, is_true_of, is_true, cleared_of, cleared_map};
 
 use geometry::Geometry;
-
-// "4,294,967,296 plus the refusal"
-const REFUSED: u64 = 4294967296;
+use laws::Refusal;
 
 // The bits of a word of the map.
 pub const WORD_BITS: u32 = 32;
@@ -29,13 +27,11 @@ fn counts(top: u8, e: u8, n: u32, memory: &[u8], k: u32) -> bool
     ensures { result ≡ counts (top - e) e n memory.now k }
 {
     let mut j = k;
-    let mut c = e;
-    while c < top {
+    for c in e..top {
         if bit_over(c, n, memory, j) != 1 {
             return false;
         }
         j = Geometry::map_block_of(j);
-        c += 1;
     }
     true
 }
@@ -57,43 +53,40 @@ pub fn plain_group(n: u32, memory: &[u8], g: u32) -> u32
     plain_group_of(1, n, memory, g)
 }
 
-// Refusals 1 and 2, which come first in each call on a lent memory, of this top level; 0 for neither.
-pub fn misfit_of(top: u8, n: u64, memory: &[u8]) -> u8
-    ensures { result ≡ refusal (sized_of top n memory.now) }
+// The memory is one of n leaves and this top level. Refused 1, 2: they come first in each call on a lent memory.
+pub fn fits_of(top: u8, n: u64, memory: &[u8]) -> Result<(), Refusal>
+    ensures { refused_with result ≡ refusal (sized_of top n memory.now) }
 {
     if !Geometry::in_limits_of(top, n) {
-        return 1;
+        return Err(Refusal::OutsideLimits);
     }
     if memory.len() as u64 != Geometry::length_of(top, n as u32) {
-        return 2;
+        return Err(Refusal::OtherLength);
     }
-    0
+    Ok(())
 }
 
 // The same of a memory of two levels.
-pub fn misfit(n: u64, memory: &[u8]) -> u8
-    ensures { result ≡ refusal (sized n memory.now) }
+pub fn fits(n: u64, memory: &[u8]) -> Result<(), Refusal>
+    ensures { refused_with result ≡ refusal (sized n memory.now) }
 {
-    misfit_of(1, n, memory)
+    fits_of(1, n, memory)
 }
 
-// Group g in a memory of this top level, or REFUSED plus the refusal: 1 for n, 2 for the length, 6 for the group.
-pub fn plain_reading_of(top: u8, n: u64, memory: &[u8], g: u64) -> u64
-    ensures { result ≡ plain_reading_of top n memory.now g }
+// Group g in a memory of this top level. Refused 1 for n, 2 for the length, 6 for the group.
+pub fn plain_reading_of(top: u8, n: u64, memory: &[u8], g: u64) -> Result<u32, Refusal>
+    ensures { given result ≡ plain_reading_of top n memory.now g }
 {
-    let c = misfit_of(top, n, memory);
-    if 0 < c {
-        return REFUSED + c as u64;
-    }
+    fits_of(top, n, memory)?;
     if Geometry::groups(n as u32) <= g {
-        return REFUSED + 6;
+        return Err(Refusal::NoGroup);
     }
-    plain_group_of(top, n as u32, memory, g as u32) as u64
+    Ok(plain_group_of(top, n as u32, memory, g as u32))
 }
 
 // The same of a memory of two levels.
-pub fn plain_reading(n: u64, memory: &[u8], g: u64) -> u64
-    ensures { result ≡ plain_reading n memory.now g }
+pub fn plain_reading(n: u64, memory: &[u8], g: u64) -> Result<u32, Refusal>
+    ensures { given result ≡ plain_reading n memory.now g }
 {
     plain_reading_of(1, n, memory, g)
 }
@@ -106,6 +99,21 @@ pub fn map_word(n: u32, memory: &[u8], i: u32) -> u32
         memory,
         Geometry::block_place(n) + Geometry::GROUP_LEN * (i as usize),
     )
+}
+
+// The first leaf from k up to but not including end with bit 1; end where there is none. What is zero of a word of the map, from k's bit on, is passed over at once.
+pub fn next_marked(n: u32, memory: &[u8], k: u32, end: u32) -> u32
+    ensures { result ≡ next_marked n memory.now k end }
+{
+    let mut j = k;
+    while j < end {
+        let rest = map_word(n, memory, j / WORD_BITS) >> (j % WORD_BITS);
+        if rest != 0 {
+            return end.min(j + rest.trailing_zeros());
+        }
+        j += (WORD_BITS - j % WORD_BITS).min(end - j);
+    }
+    end
 }
 
 // Of the bits of word i over the given number of blocks from block `first` on, those that are 1: each stands over one of them, which is not all zero.
@@ -124,7 +132,7 @@ fn word_true(first: usize, blocks: u32, memory: &[u8], i: u32) -> bool
         if block::all_zero(&memory[at..at + Geometry::BLOCK_LEN]) {
             return false;
         }
-        bits = bits & (bits - 1);
+        bits &= bits - 1;
     }
     true
 }
@@ -139,12 +147,10 @@ fn block_true(top: u8, e: u8, n: u32, first: usize, blocks: u32, memory: &[u8], 
         return true;
     }
     let words = Geometry::BITS / WORD_BITS;
-    let mut i: u32 = 0;
-    while i < words {
+    for i in 0..words {
         if !word_true(first, blocks, memory, words * j + i) {
             return false;
         }
-        i += 1;
     }
     true
 }
@@ -157,13 +163,11 @@ fn level_true(top: u8, e: u8, n: u32, first: usize, blocks: u32, memory: &[u8]) 
     if memory.len() <= Geometry::BLOCK_LEN * (first + (blocks as usize)) {
         return true;
     }
-    let end = Geometry::map_blocks(blocks);
-    let mut j: u64 = 0;
-    while j < end {
-        if !block_true(top, e, n, first, blocks, memory, j as u32) {
+    let end = Geometry::map_blocks(blocks) as u32;
+    for j in 0..end {
+        if !block_true(top, e, n, first, blocks, memory, j) {
             return false;
         }
-        j += 1;
     }
     true
 }
@@ -174,14 +178,12 @@ pub fn is_true_of(top: u8, n: u32, memory: &[u8]) -> bool
 {
     let mut first: usize = 0;
     let mut blocks = n;
-    let mut e: u8 = 0;
-    while e < top {
+    for e in 0..top {
         if !level_true(top, e, n, first, blocks, memory) {
             return false;
         }
         first += blocks as usize;
         blocks = Geometry::map_blocks(blocks) as u32;
-        e += 1;
     }
     true
 }
@@ -197,10 +199,10 @@ pub fn is_true(n: u32, memory: &[u8]) -> bool
 fn top_place(top: u8, n: u32) -> usize
     ensures { result ≡ block_place (base top n) }
 {
-    if top == 0 {
-        return 0;
+    match top {
+        0 => 0,
+        _ => Geometry::length_of(top - 1, n) as usize,
     }
-    Geometry::length_of(top - 1, n) as usize
 }
 
 // Every byte of the top blocks of a memory of n leaves and this top level is made zero; the blocks below stay as they are.
@@ -208,10 +210,9 @@ pub fn clear_of(top: u8, n: u32, memory: &mut [u8])
     ensures { memory.new ≡ cleared_of top n memory.old }
 {
     let at = top_place(top, n);
-    if memory.len() <= at {
-        return;
+    if at < memory.len() {
+        block::clear(&mut memory[at..]);
     }
-    block::clear(&mut memory[at..]);
 }
 
 // Every map byte of a memory of n leaves and two levels is made zero; the leaves stay as they are.

@@ -1,12 +1,12 @@
 -- Laws of runs: which groups are in which run, and that every group is in one of them. They ask only that c is above 0.
 use mathlib.Core.Path.{◌≡◌}
-use mathlib.Core.Bool.{true}
-use mathlib.Core.Logic.{⊎_elim}
+use mathlib.Core.Bool.{true, false}
+use mathlib.Core.Logic.{◌⊎◌, inl, inr, ⊎_elim}
 use Prim.Native.Nat.{ℕ, zero, suc, ◌+◌, ◌-◌, ◌*◌, ◌/◌, ◌≤◌, ◌<◌}
 use native.Mathlib.Nat.{suc-mul, div-mul-le_self, lt-div-mul-add, le-div_iff_mul-le, div-eq_of_lt-le, add-mul, one-mul, le-mul_of_pos_right}
 use native.Mathlib.Omega.{arith}
 use lib.Dec.{eqb}
-use borrow.Author.Tests.{eqb-true, eq-eqb, ne_eqb}
+use borrow.Author.Tests.{eqb-true, ne_eqb}
 use Rattle.laws.specs.Choice.{either}
 use Rattle.laws.proofs.Choice.{either_true}
 use Rattle.geometry.specs.TagMemory.{groups}
@@ -14,21 +14,16 @@ use Rattle.prediction.specs.Runs.{is_run, run_of, runs}
 
 module _ (c : ℕ) where
   -- the four lengths, as code tests them
-  pub is_run-first : c ≡ 4 → true ≡ is_run c
+  pub is_run-one : (c ≡ 4) ⊎ ((c ≡ 8) ⊎ ((c ≡ 16) ⊎ (c ≡ 32))) → true ≡ is_run c
   unfolding is_run either
-  is_run-first e = rw (eq-eqb c 4 e)
+  is_run-one (inl e) = rw e
+  is_run-one (inr (inl e)) = rw e
+  is_run-one (inr (inr (inl e))) = rw e
+  is_run-one (inr (inr (inr e))) = rw e
 
-  pub is_run-second : (c ≡ 4 → ⊥) → c ≡ 8 → true ≡ is_run c
+  pub is_run-none : (c ≡ 4 → ⊥) → (c ≡ 8 → ⊥) → (c ≡ 16 → ⊥) → (c ≡ 32 → ⊥) → false ≡ is_run c
   unfolding is_run either
-  is_run-second f e = rw (ne_eqb c 4 f, eq-eqb c 8 e)
-
-  pub is_run-third : (c ≡ 4 → ⊥) → (c ≡ 8 → ⊥) → c ≡ 16 → true ≡ is_run c
-  unfolding is_run either
-  is_run-third f g e = rw (ne_eqb c 4 f, ne_eqb c 8 g, eq-eqb c 16 e)
-
-  pub is_run-last : (c ≡ 4 → ⊥) → (c ≡ 8 → ⊥) → (c ≡ 16 → ⊥) → eqb c 32 ≡ is_run c
-  unfolding is_run either
-  is_run-last f g h = rw (ne_eqb c 4 f, ne_eqb c 8 g, ne_eqb c 16 h)
+  is_run-none f g h i = rw (ne_eqb c 4 f, ne_eqb c 8 g, ne_eqb c 16 h, ne_eqb c 32 i)
 
   -- each is above 0 and at most 32
   pub is_run-within : is_run c ≡ true → (0 < c) × (c ≤ 32)

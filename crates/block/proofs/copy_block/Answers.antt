@@ -4,30 +4,19 @@ use native.Mathlib.Omega.{arith}
 use Rattle.laws.proofs.Put.{part-is, put_w-is}
 use Rattle.block.proofs.Blocks.{copy-none, copy-fits, copy-not}
 use Rattle.block.proofs.copy_block.Goals as goal
+use Rattle.block.proofs.copy_block.Goals.{else-has-via-then-has+else-has-2, else-has-via-else-has}
 
-pub returns-then-row-lt-BLOCK_LEN : goal.returns-then-row-lt-BLOCK_LEN
-returns-then-row-lt-BLOCK_LEN c =
+pub returns-then-has-2 : goal.returns-then-has-2
+returns-then-has-2 c =
     let a = c.args in
-    copy-none a.memory.now a.at a.row.now a.from (omega arith)
-
-pub returns-then-row-from : goal.returns-then-row-from
-returns-then-row-from c =
-    let a = c.args in
-    copy-none a.memory.now a.at a.row.now a.from (omega arith)
-
-pub returns-then-memory-lt-BLOCK_LEN : goal.returns-then-memory-lt-BLOCK_LEN
-returns-then-memory-lt-BLOCK_LEN c =
-    let a = c.args in
-    copy-not a.memory.now a.at a.row.now a.from (omega arith) (omega arith)
-
-pub returns-then-memory-at : goal.returns-then-memory-at
-returns-then-memory-at c =
-    let a = c.args in
-    copy-not a.memory.now a.at a.row.now a.from (omega arith) (omega arith)
-
-pub returns : goal.returns
-returns c =
-    let a = c.args in
-    let call = c.copy_bytes in
-    put_w-is a.memory.now a.at 64 (omega arith) (call.ensures ∙ part-is a.row.now a.from 64) call.auto.dst
+    let call = c.copy_from_slice in
+    put_w-is a.memory.now a.at 64 (omega arith) (call.ensures.after ∙ part-is a.row.now a.from 64) call.ensures.len
     ∙ copy-fits a.memory.now a.at a.row.now a.from (omega arith)
+
+pub returns-else-has : goal.returns-else-has
+returns-else-has c =
+    let a = c.args in
+    elim c.else-has.branch [
+      | else-has-via-then-has+else-has-2 w ↦ copy-not a.memory.now a.at a.row.now a.from (omega arith) (grind arith)
+      | else-has-via-else-has w ↦ copy-none a.memory.now a.at a.row.now a.from (grind arith)
+    ]

@@ -1,4 +1,4 @@
--- The number of four bytes: a word where they are all there, else its bytes joined.
+-- The number of four bytes: a word where they are all there, else its bytes.
 use mathlib.Core.Path.{sym, ◌∙◌}
 use native.Mathlib.Omega.{arith}
 use Rattle.laws.proofs.Value.{number_at-fits, value-4-any, value-past}
@@ -11,4 +11,4 @@ pub returns-then-row-at-ge-GROUP_LEN : goal.returns-then-row-at-ge-GROUP_LEN
 returns-then-row-at-ge-GROUP_LEN c = c.word_at.ensures ∙ number_at-fits 4 _ _ (omega arith)
 
 pub returns : goal.returns
-returns c = let a = c.args in cc (value-4-any a.row.now a.at)
+returns c = omega (arith, c.from_le_bytes.ensures, value-4-any c.args.row.now c.args.at)

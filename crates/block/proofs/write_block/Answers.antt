@@ -4,12 +4,9 @@ use native.Mathlib.Omega.{arith}
 use Rattle.laws.proofs.Put.{put_w-not, put_w-is}
 use Rattle.block.proofs.write_block.Goals as goal
 
-pub returns-then-memory-lt-BLOCK_LEN : goal.returns-then-memory-lt-BLOCK_LEN
-returns-then-memory-lt-BLOCK_LEN c = sym (put_w-not 64 _ c.args.at _ (omega arith))
+pub returns-then-has : goal.returns-then-has
+returns-then-has c =
+    put_w-is c.args.memory.now c.args.at 64 (omega arith) c.copy_from_slice.ensures.after c.copy_from_slice.ensures.len
 
-pub returns-then-memory-at : goal.returns-then-memory-at
-returns-then-memory-at c = sym (put_w-not 64 _ c.args.at _ (omega arith))
-
-pub returns : goal.returns
-returns c =
-    put_w-is c.args.memory.now c.args.at 64 (omega arith) c.copy_bytes.ensures c.copy_bytes.auto.dst
+pub returns-else-has : goal.returns-else-has
+returns-else-has c = sym (put_w-not 64 _ c.args.at _ (grind arith))

@@ -14,7 +14,7 @@ returns-then-not-counts c =
     sym (block-stale (a.top - a.e) (a.top - (a.e + 1)) a.e (a.e + 1) a.n a.memory.now a.j (omega arith) (omega arith) (sym c.counts.ensures ∙ c.if-not-counts.true))
 
 pub loop-i-init : goal.loop-i-init
-loop-i-init c = (omega arith, all-zero _)
+loop-i-init c = all-zero _
 
 pub returns-then-not-word_true : goal.returns-then-not-word_true
 returns-then-not-word_true c =
@@ -28,10 +28,10 @@ loop-i-preserved c =
     let counted : let a = c.args in counts (a.top - (a.e + 1)) (a.e + 1) a.n a.memory.now a.j ≡ true = sym c.counts.ensures ∙ c.if-not-counts.false in
     let a = c.args in
     let l = c.loop-i in
-    (omega arith, words_more (a.top - a.e) (a.top - (a.e + 1)) a.e (a.e + 1) a.n a.memory.now a.j (omega arith) (omega arith) counted a.first a.blocks c.requires.1 c.requires.2 l.i (omega arith) l.invariant.1 (sym c.word_true.ensures ∙ c.if-not-word_true.false))
+    words_more (a.top - a.e) (a.top - (a.e + 1)) a.e (a.e + 1) a.n a.memory.now a.j (omega arith) (omega arith) counted a.first a.blocks c.requires.1 c.requires.2 l.i (omega arith) l.invariant (sym c.word_true.ensures ∙ c.if-not-word_true.false)
 
 pub returns : goal.returns
 returns c =
     let a = c.args in
     let l = c.loop-i in
-    sym (words-all (a.top - a.e) a.e a.n a.memory.now a.j l.i (omega arith) l.invariant.1)
+    sym (words-all (a.top - a.e) a.e a.n a.memory.now a.j l.i (omega arith) l.invariant)

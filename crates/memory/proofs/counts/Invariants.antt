@@ -6,6 +6,3 @@ use Rattle.memory.proofs.counts.Given as goal
 
 abbrev pub invariant-loop-c : goal.invariant-loop-c
 invariant-loop-c l = counts (l.top - l.e) l.e l.n l.memory l.k ≡ counts (l.top - l.c) l.c l.n l.memory l.j
-
-abbrev pub decreases-loop-c : goal.decreases-loop-c
-decreases-loop-c l = l.top - l.c

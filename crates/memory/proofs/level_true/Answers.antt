@@ -32,14 +32,11 @@ returns-then-memory-first c =
     let a = c.args in
     sym (level-none (a.top - a.e) (a.top - (a.e + 1)) a.e a.n a.memory.now (omega arith) (omega (arith, c.requires.1, c.requires.2)))
 
-pub loop-j-init : goal.loop-j-init
-loop-j-init c = (omega arith, c.map_blocks-end.ensures, all-zero _)
+pub overflow_cast-end : goal.overflow_cast-end
+overflow_cast-end c = omega (arith, c.map_blocks-end.ensures, map_blocks-few c.args.blocks)
 
-pub overflow_cast-j : goal.overflow_cast-j
-overflow_cast-j c =
-    let a = c.args in
-    let l = c.loop-j in
-    omega (arith, map_blocks-few a.blocks)
+pub loop-j-init : goal.loop-j-init
+loop-j-init c = (c.map_blocks-end.ensures, all-zero _)
 
 pub block_true-requires : goal.block_true-requires
 block_true-requires c =
@@ -51,22 +48,16 @@ pub returns-then-not-block_true : goal.returns-then-not-block_true
 returns-then-not-block_true c =
     let a = c.args in
     let l = c.loop-j in
-    sym (blocks-fail (a.top - a.e) a.e a.n a.memory.now l.j (omega (arith, above a.e a.n l.invariant.1 c.requires.2)) (sym c.block_true.ensures ∙ c.if-not-block_true.true))
-
-pub overflow_add-j : goal.overflow_add-j
-overflow_add-j c =
-    let a = c.args in
-    let l = c.loop-j in
-    omega (arith, map_blocks-few a.blocks)
+    sym (blocks-fail (a.top - a.e) a.e a.n a.memory.now l.j (omega (arith, above a.e a.n l.invariant.0 c.requires.2)) (sym c.block_true.ensures ∙ c.if-not-block_true.true))
 
 pub loop-j-preserved : goal.loop-j-preserved
 loop-j-preserved c =
     let a = c.args in
     let l = c.loop-j in
-    (omega arith, l.invariant.1, blocks_more (a.top - a.e) a.e a.n a.memory.now l.j l.invariant.2 (sym c.block_true.ensures ∙ c.if-not-block_true.false))
+    (l.invariant.0, blocks_more (a.top - a.e) a.e a.n a.memory.now l.j l.invariant.1 (sym c.block_true.ensures ∙ c.if-not-block_true.false))
 
 pub returns : goal.returns
 returns c =
     let a = c.args in
     let l = c.loop-j in
-    sym (blocks-all (a.top - a.e) a.e a.n a.memory.now l.j (omega (arith, above a.e a.n l.invariant.1 c.requires.2)) l.invariant.2)
+    sym (blocks-all (a.top - a.e) a.e a.n a.memory.now l.j (omega (arith, above a.e a.n l.invariant.0 c.requires.2)) l.invariant.1)

@@ -4,8 +4,8 @@ use native.Mathlib.Omega.{arith}
 use Rattle.memory.proofs.Clearing.{top-place-is}
 use Rattle.memory.proofs.top_place.Goals as goal
 
-pub returns-then-top-eq0 : goal.returns-then-top-eq0
-returns-then-top-eq0 c = let zero : c.args.top ≡ 0 = c.if-top-eq0.true in rw zero
+pub returns-in-0 : goal.returns-in-0
+returns-in-0 c = let zero : c.args.top ≡ 0 = c.in-0.is in rw zero
 
-pub returns : goal.returns
-returns c = let a = c.args in top-place-is a.top a.n (omega arith) c.length_of.ensures
+pub returns-in_default : goal.returns-in_default
+returns-in_default c = let a = c.args in top-place-is a.top a.n (omega arith) c.length_of.ensures

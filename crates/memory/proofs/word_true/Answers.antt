@@ -15,7 +15,7 @@ pub loop-bits-init : goal.loop-bits-init
 unfolding Bytes map_word
 loop-bits-init c =
     let a = c.args in
-    left-all a.first a.blocks a.memory.now a.i c.number_at-bits.result (λ x. omega (arith, c.shared_slice_known-1.given x)) c.number_at-bits.ensures (omega (arith, c.number_at-bits.type_inv))
+    left-all a.first a.blocks a.memory.now a.i c.number_at-bits.result (λ x. omega (arith, c.type_inv.memory x)) c.number_at-bits.ensures (omega (arith, c.number_at-bits.type_inv))
 
 pub overflow_add-k : goal.overflow_add-k
 overflow_add-k c =

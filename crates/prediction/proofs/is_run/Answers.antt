@@ -1,15 +1,10 @@
--- The four lengths, one test after the other.
-use Rattle.prediction.proofs.RunsOf.{is_run-first, is_run-second, is_run-third, is_run-last}
+-- The four lengths.
+use native.Mathlib.Omega.{arith}
+use Rattle.prediction.proofs.RunsOf.{is_run-one, is_run-none}
 use Rattle.prediction.proofs.is_run.Goals as goal
 
-pub returns-then-c-eq4 : goal.returns-then-c-eq4
-returns-then-c-eq4 c = is_run-first _ c.if-c-eq4.true
+pub returns-in-4 : goal.returns-in-4
+returns-in-4 c = is_run-one _ c.in-4.is
 
-pub returns-then-c-eq8 : goal.returns-then-c-eq8
-returns-then-c-eq8 c = is_run-second _ c.if-c-eq4.false c.if-c-eq8.true
-
-pub returns-then-c-eq16 : goal.returns-then-c-eq16
-returns-then-c-eq16 c = is_run-third _ c.if-c-eq4.false c.if-c-eq8.false c.if-c-eq16.true
-
-pub returns : goal.returns
-returns c = is_run-last _ c.if-c-eq4.false c.if-c-eq8.false c.if-c-eq16.false
+pub returns-in_default : goal.returns-in_default
+returns-in_default c = is_run-none _ (λ e. grind arith) (λ e. grind arith) (λ e. grind arith) (λ e. grind arith)

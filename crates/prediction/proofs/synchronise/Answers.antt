@@ -1,47 +1,30 @@
 -- Refused, nothing is touched; else the run's bit is made what its groups say.
-use mathlib.Core.Path.{sym, ◌∙◌, ap}
-use Prim.Native.Nat.{◌≤◌, ◌<◌}
+use mathlib.Core.Path.{◌≡◌, refl, sym, ap, ◌∙◌}
+use Prim.Native.Nat.{ℕ}
 use native.Mathlib.Omega.{arith}
-use mathlib.Core.Bool.{Bool}
-use lib.ListN.{length}
-use Rattle.laws.specs.Choice.{pick}
-use Rattle.prediction.specs.Runs.{runs, put_run_bit}
-use Rattle.prediction.specs.Calls.{lent}
-use Rattle.prediction.proofs.Refusals.{is-reached, run_small, synchronise-refused, synchronise-leaves}
+use borrow.Author.Rules.{rules}
+use Rattle.laws.specs.Refusal.{number, given_done}
+use Rattle.laws.proofs.Told.{number-some}
+use Rattle.prediction.specs.Calls.{lent, done, refused}
+use Rattle.prediction.proofs.Refusals.{is-reached, synchronise-refused, synchronise-leaves}
 use Rattle.prediction.proofs.synchronise.Goals as goal
 
-pub returns-then-no-ne0 : goal.returns-then-no-ne0
-returns-then-no-ne0 c = let a = c.args in synchronise-refused a.n a.c (lent a.tags.now a.bits.now) a.r c.run_refusal-no.ensures c.if-no-ne0.true
-
-pub overflow_cast-r : goal.overflow_cast-r
-overflow_cast-r c =
-    let small : (0 < c.args.c) × (c.args.c ≤ 32) × (c.args.n ≤ 262144) × (c.args.r < 4194304) = let a = c.args in run_small a.n a.c (length a.tags.now) (length a.bits.now) a.r (sym c.run_refusal-no.ensures ∙ c.if-no-ne0.false) in
-    omega (arith, small.3)
-
-pub overflow_cast-n : goal.overflow_cast-n
-overflow_cast-n c =
-    let small : (0 < c.args.c) × (c.args.c ≤ 32) × (c.args.n ≤ 262144) × (c.args.r < 4194304) = let a = c.args in run_small a.n a.c (length a.tags.now) (length a.bits.now) a.r (sym c.run_refusal-no.ensures ∙ c.if-no-ne0.false) in
-    omega (arith, small.2)
-
-pub overflow_cast-c : goal.overflow_cast-c
-overflow_cast-c c =
-    let small : (0 < c.args.c) × (c.args.c ≤ 32) × (c.args.n ≤ 262144) × (c.args.r < 4194304) = let a = c.args in run_small a.n a.c (length a.tags.now) (length a.bits.now) a.r (sym c.run_refusal-no.ensures ∙ c.if-no-ne0.false) in
-    omega (arith, small.1)
-
-pub overflow_cast-r-2 : goal.overflow_cast-r-2
-overflow_cast-r-2 c =
-    let small : (0 < c.args.c) × (c.args.c ≤ 32) × (c.args.n ≤ 262144) × (c.args.r < 4194304) = let a = c.args in run_small a.n a.c (length a.tags.now) (length a.bits.now) a.r (sym c.run_refusal-no.ensures ∙ c.if-no-ne0.false) in
-    omega (arith, small.3)
+pub returns-in_err-runs : goal.returns-in_err-runs
+returns-in_err-runs c =
+    let s = lent c.args.tags.now c.args.bits.now in
+    let r = number c.in_err-runs.field-0.0 in
+    let some = number-some c.in_err-runs.field-0.0 in
+    let told : given_done c.from_residual.result ≡ refused r = search rules in
+    ap (λ (x : ℕ). done x s) told ∙ synchronise-refused _ _ s _ c.in_err-runs.ensures.told (λ z. omega (arith, some))
 
 pub any_in-requires : goal.any_in-requires
 any_in-requires c =
-    let small : (0 < c.args.c) × (c.args.c ≤ 32) × (c.args.n ≤ 262144) × (c.args.r < 4194304) = let a = c.args in run_small a.n a.c (length a.tags.now) (length a.bits.now) a.r (sym c.run_refusal-no.ensures ∙ c.if-no-ne0.false) in
-    let a = c.args in
-    let y = is-reached a.n a.c (length a.tags.now) (length a.bits.now) (runs a.n a.c) a.r (sym c.run_refusal-no.ensures ∙ c.if-no-ne0.false) in
-    (small.0, small.2, y.1, y.0.tags)
+    let ok = c.in_ok-runs.ensures in
+    let reached = is-reached _ _ _ _ _ _ (sym ok.told) in
+    rw (ok.same.0, ok.same.1, ok.same.2) (reached.1, reached.0.tags)
 
 pub returns : goal.returns
 returns c =
-    let a = c.args in
-    synchronise-leaves a.n a.c (lent a.tags.now a.bits.now) a.r c.run_refusal-no.ensures c.if-no-ne0.false
-    (c.put_run_bit.ensures ∙ ap (λ (x : Bool). put_run_bit a.bits.now a.r (pick x 1 0)) c.any_in.ensures)
+    let ok = c.in_ok-runs.ensures in
+    synchronise-leaves _ _ (lent c.args.tags.now c.args.bits.now) _ ok.told refl
+    (rw (c.any_in.ensures, ok.same.0, ok.same.1, ok.same.2) at c.put_run_bit.ensures)

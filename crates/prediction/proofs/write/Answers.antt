@@ -1,38 +1,27 @@
 -- Refused, nothing is touched; else the group is put at its place and its run marked.
-use mathlib.Core.Path.{sym, ◌∙◌, ap}
-use Prim.Native.Nat.{ℕ, ◌≤◌, ◌<◌}
+use mathlib.Core.Path.{◌≡◌, refl, ap, ◌∙◌}
+use Prim.Native.Nat.{ℕ}
 use native.Mathlib.Omega.{arith}
-use lib.ListN.{length}
+use borrow.Author.Rules.{rules}
+use Rattle.laws.specs.Refusal.{number, given_done}
+use Rattle.laws.proofs.Told.{number-some}
+use Rattle.geometry.specs.TagMemory.{group_place}
 use Rattle.block.specs.Block.{put_group}
-use Rattle.prediction.specs.Calls.{lent}
-use Rattle.prediction.proofs.Refusals.{group-small, write-refused, write-leaves}
+use Rattle.prediction.specs.Calls.{lent, done, refused}
+use Rattle.prediction.proofs.Refusals.{write-refused, write-leaves}
 use Rattle.prediction.proofs.write.Goals as goal
 
-pub returns-then-no-ne0 : goal.returns-then-no-ne0
-returns-then-no-ne0 c = let a = c.args in write-refused a.n a.c (lent a.tags.now a.bits.now) a.g c.group_refusal-no.ensures a.v c.if-no-ne0.true
-
-pub overflow_cast-g : goal.overflow_cast-g
-overflow_cast-g c =
-    let small : (0 < c.args.c) × (c.args.c ≤ 32) × (c.args.g < 4194304) = let a = c.args in group-small a.n a.c (length a.tags.now) (length a.bits.now) a.g (sym c.group_refusal-no.ensures ∙ c.if-no-ne0.false) in
-    omega (arith, small.2)
-
-pub overflow_cast-c : goal.overflow_cast-c
-overflow_cast-c c =
-    let small : (0 < c.args.c) × (c.args.c ≤ 32) × (c.args.g < 4194304) = let a = c.args in group-small a.n a.c (length a.tags.now) (length a.bits.now) a.g (sym c.group_refusal-no.ensures ∙ c.if-no-ne0.false) in
-    omega (arith, small.1)
-
-pub overflow_cast-g-2 : goal.overflow_cast-g-2
-overflow_cast-g-2 c =
-    let small : (0 < c.args.c) × (c.args.c ≤ 32) × (c.args.g < 4194304) = let a = c.args in group-small a.n a.c (length a.tags.now) (length a.bits.now) a.g (sym c.group_refusal-no.ensures ∙ c.if-no-ne0.false) in
-    omega (arith, small.2)
-
-pub mark-requires : goal.mark-requires
-mark-requires c =
-    let small : (0 < c.args.c) × (c.args.c ≤ 32) × (c.args.g < 4194304) = let a = c.args in group-small a.n a.c (length a.tags.now) (length a.bits.now) a.g (sym c.group_refusal-no.ensures ∙ c.if-no-ne0.false) in
-    small.0
+pub returns-in_err-runs : goal.returns-in_err-runs
+returns-in_err-runs c =
+    let s = lent c.args.tags.now c.args.bits.now in
+    let r = number c.in_err-runs.field-0.0 in
+    let some = number-some c.in_err-runs.field-0.0 in
+    let told : given_done c.from_residual.result ≡ refused r = search rules in
+    ap (λ (x : ℕ). done x s) told ∙ write-refused _ _ s _ c.in_err-runs.ensures.told _ (λ z. omega (arith, some))
 
 pub returns : goal.returns
 returns c =
     let a = c.args in
-    write-leaves a.n a.c (lent a.tags.now a.bits.now) a.g c.group_refusal-no.ensures a.v c.if-no-ne0.false
-    (c.put_group.ensures ∙ ap (λ (x : ℕ). put_group a.tags.now x a.v) c.group_place.ensures) c.mark.ensures
+    let ok = c.in_ok-runs.ensures in
+    let place = c.group_place.ensures ∙ ap group_place ok.same.2 in
+    write-leaves _ _ (lent a.tags.now a.bits.now) _ ok.told _ refl (c.put_group.ensures ∙ ap (λ (x : ℕ). put_group a.tags.now x a.v) place) (rw (ok.same.1, ok.same.2) at c.mark.ensures)

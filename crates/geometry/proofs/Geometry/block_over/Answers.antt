@@ -6,7 +6,5 @@ use Rattle.geometry.proofs.Geometry.block_over.Goals as goal
 
 pub overflow_add-result : goal.overflow_add-result
 overflow_add-result c =
-    let a = c.args in
-    let n-most : a.n ≤ 4294967295 = omega arith in
-    let e-most : a.e ≤ 255 = omega arith in
-    omega (arith, e-most, c.base.ensures, base-few a.n 4294967295 a.e n-most)
+    let n-most : c.args.n ≤ 4294967295 = omega arith in
+    omega (arith, c.base.ensures, base-few c.args.n 4294967295 c.from.result n-most)
