@@ -24,7 +24,7 @@ use Rattle.tracker.specs.Transfers.{none, plus}
 use Rattle.line.specs.Word.{block_of, changed, word, cleaned}
 use Rattle.line.specs.Find.{line_of, lowest_free, victim, after}
 use Rattle.line.proofs.Words.{changed-none}
-use Rattle.line.proofs.Find.{lowest_free-free}
+use Rattle.line.proofs.Find.{lowest_free-free, victim-≤}
 use Rattle.rules.specs.State.{Rows}
 use Rattle.rules.specs.Copies.{Copy, fetch, fetches, backs, tally}
 use Rattle.rules.specs.Place.{rows_fit, place_line, place_hand, written_back, back_of, place_memory, place_copies, Brought, filled, bring_in, create, drained, drain_copies}
@@ -154,12 +154,12 @@ module _ (shape : Shape) (lines bytes memory : List ℕ) {z : Transfers} (ez : z
       rw (e, ez) (sym (rw (f, lt-ltb _ _ h', lt-leb _ _ h', lt-ltb _ _ h', ← written-not lines bytes memory _ k, ← back-not lines _ k) refl))
 
   -- none is free, and every line is held
-  pub placed-none : (i : ℕ) → rows_fit shape.l lines bytes ≡ true → shape.l ≤ lowest_free lines shape.l → i ≡ victim lines shape.l shape.hand → shape.l ≤ i
-      → left i shape z lines bytes memory ≡ placed shape (rows lines bytes memory)
+  pub placed-none : rows_fit shape.l lines bytes ≡ true → shape.l ≤ lowest_free lines shape.l → shape.l ≤ victim lines shape.l shape.hand
+      → left shape.l shape z lines bytes memory ≡ placed shape (rows lines bytes memory)
   unfolding place_line place_hand place_memory place_copies tally fetches backs both
-  placed-none i f o e h =
-      let h' : shape.l ≤ victim lines shape.l shape.hand = omega arith in
-      rw (e, ez) (sym (rw (f, le-ltb _ _ o, le-leb _ _ o, le-ltb _ _ h') refl))
+  placed-none f o h =
+      let e : victim lines shape.l shape.hand ≡ shape.l = omega (arith, victim-≤ lines shape.l shape.hand) in
+      rw ez (sym (rw (f, le-ltb _ _ o, le-leb _ _ o, e, le-ltb shape.l shape.l (omega arith)) refl))
 
 module _ (shape : Shape) (lines bytes memory : List ℕ) where
   pub placed-victim : (i next : ℕ) (y : Shape) (z : Transfers) (m : List ℕ) → rows_fit shape.l lines bytes ≡ true → shape.l ≤ lowest_free lines shape.l → i ≡ victim lines shape.l shape.hand → i < shape.l
