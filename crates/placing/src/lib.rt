@@ -26,6 +26,7 @@ pub fn bytes_fit(l: usize, bytes: &[u8]) -> bool
 }
 
 // The rows are of L lines.
+#[tactic(auto, unfolding(rules::specs::Place::rows_fit, laws::specs::Choice::both))]
 pub fn rows_fit(l: usize, lines: &[u32], bytes: &[u8]) -> bool
     ensures { result ≡ rows_fit l lines.now bytes.now }
 {
