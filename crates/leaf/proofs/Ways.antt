@@ -9,7 +9,7 @@ use lib.Dec.{ltb}
 use lib.ListN.{length, set, take, drop}
 use borrow.Author.Tests.{lt-ltb, le-ltb, eq-eqb, ne_eqb, ltb-true}
 use Rattle.laws.specs.Choice.{both}
-use Rattle.laws.proofs.Choice.{true-or-false, not-both-ways, both_true, both_left, both_right, both-false-left}
+use Rattle.laws.proofs.Choice.{true-or-false, not-both-ways, both_true, both_left, both_right}
 use Rattle.laws.proofs.Put.{part-is}
 use Rattle.geometry.specs.declared.Shape.{Shape}
 use Rattle.geometry.specs.Shape.{top_of}
@@ -147,15 +147,7 @@ module _ (own : Own) (shape : Shape) (t : Tracker) (lines bytes memory : List �
     unfolding write_under0
     write_under0-on h = rw (ne_eqb _ _ q, created, lt-ltb _ _ h) refl
 
--- Leaf on rows that fit, or not
-pub past-rows : (l j : ℕ) (lines bytes : List ℕ) → l ≤ j → false ≡ both (ltb j l) (rows_fit l lines bytes)
-past-rows l j lines bytes h = sym (both-false-left _ _ (le-ltb _ _ h))
-
-pub in_rows : (l j : ℕ) (lines bytes : List ℕ) {f : Bool} → j < l → f ≡ rows_fit l lines bytes → f ≡ both (ltb j l) (rows_fit l lines bytes)
-unfolding both
-in_rows l j lines bytes h e = rw (lt-ltb _ _ h) e
-
--- what a row of L lines with line j has
+-- Leaf on rows that fit, or not: what a row of L lines with line j has
 module _ (l j : ℕ) (lines bytes : List ℕ) (f : both (ltb j l) (rows_fit l lines bytes) ≡ true) where
   pub in-line : j < l
   in-line = ltb-true _ _ (both_left _ _ f)

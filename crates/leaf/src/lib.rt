@@ -18,6 +18,7 @@ use placing::Spot;
 use tracker::{Phase, Tracker, Transfers};
 
 // Group g in line i.
+#[tactic(auto, unfolding(geometry::specs::TagMemory::byte_of))]
 fn group_in(bytes: &[u8], i: usize, g: u32) -> u32
     requires { 64 * i + 64 ≤ length bytes.now }
     ensures { result ≡ group_in bytes.now i g }
@@ -29,18 +30,16 @@ fn group_in(bytes: &[u8], i: usize, g: u32) -> u32
 pub fn probe(shape: Shape, t: Tracker, lines: &[u32], bytes: &[u8]) -> Turned
     ensures { OnAnyMemory (λ q. probe_on shape t q) result lines.now bytes.now lines.now bytes.now }
 {
-    let l = shape.l;
-    if !placing::rows_fit(l, lines, bytes) {
+    if !placing::rows_fit(shape.l, lines, bytes) {
         return outcome::refuses(4, shape, t);
     }
     let none = Transfers::none();
-    let g = t.group;
     let next = Phase::after_probe(shape.top(), 0);
-    let i = line::line_of(lines, l, Geometry::leaf_of(g));
-    if l <= i {
+    let i = line::line_of(lines, shape.l, Geometry::leaf_of(t.group));
+    if shape.l <= i {
         return outcome::goes(shape, t, none, next);
     }
-    let v = group_in(bytes, i, g);
+    let v = group_in(bytes, i, t.group);
     if !t.write {
         return outcome::ends_read(shape, t, none, v);
     }
@@ -62,36 +61,31 @@ fn leaf_read(
     requires { Owns own shape t.group lines.old × (shape.l ≤ length lines.old) × (length bytes.old ≡ 64 * shape.l) }
     ensures { turned result lines.new bytes.new memory.new ≡ leaf_read shape t (rows lines.old bytes.old memory.old) }
 {
-    let g = t.group;
-    let l = shape.l;
-    let spot = placing::bring_in(shape, Geometry::leaf_of(g), lines, bytes, memory);
-    let i = spot.line;
-    if l <= i {
+    let Some(spot) = placing::bring_in(shape, Geometry::leaf_of(t.group), lines, bytes, memory)
+    else {
         return outcome::refuses(4, shape, t);
-    }
-    let v = group_in(bytes, i, g);
-    let next = spot.shape;
-    own::let_go(next, t, own, lines);
-    outcome::ends_read(next, t, spot.copies, v)
+    };
+    let v = group_in(bytes, spot.line, t.group);
+    own::let_go(spot.shape, t, own, lines);
+    outcome::ends_read(spot.shape, t, spot.copies, v)
 }
 
 // Put v in, the leaf in its line. All 64 bytes now zero: the line is made free, on to Finish (clear). Else the line is changed, end "done", let go.
+#[tactic(auto, unfolding(geometry::specs::TagMemory::byte_of))]
 fn put_in(own: Own, spot: Spot, t: Tracker, lines: &mut [u32], bytes: &mut [u8]) -> Turned
     requires { (spot.line < length lines.old) × (64 * spot.line + 64 ≤ length bytes.old) }
     ensures { (m : List ℕ) → turned result lines.new bytes.new m ≡ put_in (line_on own) t (brought spot lines.old bytes.old m) }
 {
     let i = spot.line;
-    let g = t.group;
     let at = Geometry::BLOCK_LEN * i;
-    block::put_group(bytes, at + Geometry::byte_of(g), t.value);
+    block::put_group(bytes, at + Geometry::byte_of(t.group), t.value);
     if block::all_zero(&bytes[at..at + Geometry::BLOCK_LEN]) {
         lines[i] = 0;
         return outcome::goes(spot.shape, t, spot.copies, Phase::Clear(0));
     }
-    lines[i] = line::word(Geometry::leaf_of(g), true, 0);
-    let next = spot.shape;
-    own::let_go(next, t, own, lines);
-    outcome::ends_done(next, t, spot.copies)
+    lines[i] = line::word(Geometry::leaf_of(t.group), true, 0);
+    own::let_go(spot.shape, t, own, lines);
+    outcome::ends_done(spot.shape, t, spot.copies)
 }
 
 // Leaf, write, under bit 1. Bring in the leaf; group equal to v: end "same", let go. Else put v in.
@@ -106,17 +100,13 @@ fn write_under_1(
     requires { Owns own shape t.group lines.old × (shape.l ≤ length lines.old) × (length bytes.old ≡ 64 * shape.l) }
     ensures { turned result lines.new bytes.new memory.new ≡ write_under1 shape t (rows lines.old bytes.old memory.old) }
 {
-    let g = t.group;
-    let l = shape.l;
-    let spot = placing::bring_in(shape, Geometry::leaf_of(g), lines, bytes, memory);
-    let i = spot.line;
-    if l <= i {
+    let Some(spot) = placing::bring_in(shape, Geometry::leaf_of(t.group), lines, bytes, memory)
+    else {
         return outcome::refuses(4, shape, t);
-    }
-    if group_in(bytes, i, g) == t.value {
-        let next = spot.shape;
-        own::let_go(next, t, own, lines);
-        return outcome::ends_same(next, t, spot.copies);
+    };
+    if group_in(bytes, spot.line, t.group) == t.value {
+        own::let_go(spot.shape, t, own, lines);
+        return outcome::ends_same(spot.shape, t, spot.copies);
     }
     put_in(own, spot, t, lines, bytes)
 }
@@ -146,31 +136,20 @@ fn write_under_0(
         own::let_go(shape, t, own, lines);
         return outcome::ends_same(shape, t, Transfers::none());
     }
-    let l = shape.l;
     let new = new_leaf(t);
-    let spot = placing::create(
-        shape,
-        Geometry::leaf_of(t.group),
-        &new,
-        lines,
-        bytes,
-        memory,
-    );
-    let i = spot.line;
-    if l <= i {
+    let leaf = Geometry::leaf_of(t.group);
+    let Some(spot) = placing::create(shape, leaf, &new, lines, bytes, memory) else {
         return outcome::refuses(4, shape, t);
-    }
+    };
     outcome::goes(spot.shape, t, spot.copies, Phase::Set(0))
 }
 
 // The rows are of L lines, and j is one of them.
+#[tactic(auto, unfolding(laws::specs::Choice::both))]
 fn in_rows(l: usize, j: usize, lines: &[u32], bytes: &[u8]) -> bool
     ensures { result ≡ both (ltb j l) (rows_fit l lines.now bytes.now) }
 {
-    if l <= j {
-        return false;
-    }
-    placing::rows_fit(l, lines, bytes)
+    j < l && placing::rows_fit(l, lines, bytes)
 }
 
 // Leaf, under the bit in its own line of level 1; 4 where it has none.
@@ -183,16 +162,14 @@ pub fn leaf(
 ) -> Turned
     ensures { turned result lines.new bytes.new memory.new ≡ leaf_on shape t (rows lines.old bytes.old memory.old) }
 {
-    let g = t.group;
-    let own = own::find(shape, g, lines);
-    let j = own.one;
-    if !in_rows(shape.l, j, lines, bytes) {
+    let own = own::find(shape, t.group, lines);
+    if !in_rows(shape.l, own.one, lines, bytes) {
         return outcome::refuses(4, shape, t);
     }
     if !t.write {
         return leaf_read(shape, own, t, lines, bytes, memory);
     }
-    if own::bit_in(bytes, j, 0, g) == 0 {
+    if own::bit_in(bytes, own.one, 0, t.group) == 0 {
         return write_under_0(shape, own, t, lines, bytes, memory);
     }
     write_under_1(shape, own, t, lines, bytes, memory)

@@ -81,12 +81,6 @@ module _ (b : ℕ) (c : Bool) (h : ℕ) (p : b < line_blocks) (q : h < marks) wh
   unfolding word
   word-is = rw (both_true _ _ (lt-ltb b line_blocks p) (lt-ltb h marks q))
 
-pub word-changed : (b : ℕ) (c : Bool) (h : ℕ) → b < line_blocks → h < marks → c ≡ true → word b c h ≡ 2 + 2 * h + 256 * b
-word-changed b c h p q t = word-is b c h p q ∙ rw t (omega arith)
-
-pub word-clean : (b : ℕ) (c : Bool) (h : ℕ) → b < line_blocks → h < marks → c ≡ false → word b c h ≡ 1 + 2 * h + 256 * b
-word-clean b c h p q f = word-is b c h p q ∙ rw f (omega arith)
-
 pub word-past-block : (b : ℕ) (c : Bool) (h : ℕ) → line_blocks ≤ b → word b c h ≡ 0
 unfolding word
 word-past-block b c h p = rw (both-false-left (ltb b line_blocks) (ltb h marks) (le-ltb b line_blocks p))
@@ -148,10 +142,6 @@ clean-part w f = let n : (w - 1) % 2 ≡ 1 → ⊥ = eqb-false ((w - 1) % 2) 1 f
       where
         odd : (x : ℕ) → (x % 2 ≡ 0 → ⊥) → x % 2 ≡ 1
         odd x n = omega arith
-
-pub changed-even : (w : ℕ) → 0 < w → w % 2 ≡ 0 → changed w ≡ true
-unfolding changed
-changed-even w p e = eq-eqb ((w - 1) % 2) 1 (omega arith)
 
 pub changed-odd : (w : ℕ) → w % 2 ≡ 1 → changed w ≡ false
 unfolding changed

@@ -2,10 +2,11 @@
 // No public function has a `requires`: a line that the row does not have reads as 0, which is free.
 #![tactic(auto)]
 
-ghost use Rattle.std.specs.Prelude.{◌≡◌, min};
+ghost use Rattle.std.specs.Prelude.{◌≡◌};
 ghost use Rattle.line.specs.Word.{block_of, changed, holder, held, has, word, held_by, cleaned};
 ghost use Rattle.line.specs.Find.{line_of, lowest_free, loose_from, victim, after};
 
+// Kept: a line is one number and no struct, since the words of a state, which C keeps, have it so (coding's `codes_line`).
 // The marks of a holder: its number plus one, or 0.
 const MARKS: u32 = 128;
 
@@ -16,27 +17,31 @@ pub const HOLDERS: u32 = 127;
 const BLOCKS: u32 = 16777215;
 
 // The block that a used line holds.
+#[tactic(auto, unfolding(crate::specs::Word::block_of))]
 pub fn block_of(w: u32) -> u32
     ensures { result ≡ block_of w }
 {
-    if w == 0 { 0 } else { (w - 1) / 256 }
+    w.saturating_sub(1) / 256
 }
 
 // The line's bytes are not those of memory.
+#[tactic(auto, unfolding(crate::specs::Word::changed))]
 pub fn changed(w: u32) -> bool
     ensures { result ≡ changed w }
 {
-    if w == 0 { false } else { (w - 1) % 2 == 1 }
+    w.saturating_sub(1) % 2 == 1
 }
 
 // The number of the tracker that holds the line's block, plus one; 0 for none.
+#[tactic(auto, unfolding(crate::specs::Word::holder))]
 pub fn holder(w: u32) -> u32
     ensures { result ≡ holder w }
 {
-    if w == 0 { 0 } else { (w - 1) / 2 % MARKS }
+    w.saturating_sub(1) / 2 % MARKS
 }
 
 // A tracker holds the line's block.
+#[tactic(auto, unfolding(crate::specs::Word::held))]
 pub fn held(w: u32) -> bool
     ensures { result ≡ held w }
 {
@@ -47,27 +52,22 @@ pub fn held(w: u32) -> bool
 pub fn has(w: u32, b: u32) -> bool
     ensures { result ≡ has w b }
 {
-    (w as u64 + 255) / 256 == b as u64 + 1
+    (u64::from(w) + 255) / 256 == u64::from(b) + 1
 }
 
 // The line of block b, changed or clean, with its holder's number plus one or 0; free where a number is too large for it.
 pub fn word(b: u32, c: bool, h: u32) -> u32
     ensures { result ≡ word b c h }
 {
-    if BLOCKS <= b {
-        return 0;
-    }
-    if MARKS <= h {
-        return 0;
-    }
-    if c {
-        2 + 2 * h + 256 * b
+    if b < BLOCKS && h < MARKS {
+        1 + u32::from(c) + 2 * h + 256 * b
     } else {
-        1 + 2 * h + 256 * b
+        0
     }
 }
 
 // The same line with another holder.
+#[tactic(auto, unfolding(crate::specs::Word::held_by))]
 pub fn held_by(w: u32, h: u32) -> u32
     ensures { result ≡ held_by w h }
 {
@@ -75,33 +75,21 @@ pub fn held_by(w: u32, h: u32) -> u32
 }
 
 // The same line clean.
+#[tactic(auto, unfolding(crate::specs::Word::cleaned))]
 pub fn cleaned(w: u32) -> u32
     ensures { result ≡ cleaned w }
 {
-    if w == 0 {
-        return 0;
-    }
-    if w % 2 == 0 { w - 1 } else { w }
-}
-
-// The lesser of two numbers.
-fn lesser(a: usize, b: usize) -> usize
-    ensures { result ≡ min a b }
-{
-    if a < b { a } else { b }
+    if changed(w) { w - 1 } else { w }
 }
 
 // The line that has block b, of l lines; l where none has.
 pub fn line_of(lines: &[u32], l: usize, b: u32) -> usize
     ensures { result ≡ line_of lines.now l b }
 {
-    let end = lesser(l, lines.len());
-    let mut i: usize = 0;
-    while i < end {
+    for i in 0..l.min(lines.len()) {
         if has(lines[i], b) {
             return i;
         }
-        i += 1;
     }
     l
 }
@@ -110,13 +98,11 @@ pub fn line_of(lines: &[u32], l: usize, b: u32) -> usize
 pub fn lowest_free(lines: &[u32], l: usize) -> usize
     ensures { result ≡ lowest_free lines.now l }
 {
-    let end = lesser(l, lines.len());
-    let mut i: usize = 0;
-    while i < end {
+    let end = l.min(lines.len());
+    for i in 0..end {
         if lines[i] == 0 {
             return i;
         }
-        i += 1;
     }
     end
 }
@@ -125,15 +111,12 @@ pub fn lowest_free(lines: &[u32], l: usize) -> usize
 pub fn loose_from(lines: &[u32], l: usize, from: usize) -> usize
     ensures { result ≡ loose_from lines.now l from }
 {
-    let end = lesser(l, lines.len());
+    let end = l.min(lines.len());
     if end <= from {
-        return lesser(l, from);
+        return l.min(from);
     }
-    let mut i = from;
-    while i < end {
-        if held(lines[i]) {
-            i += 1;
-        } else {
+    for i in from..end {
+        if !held(lines[i]) {
             return i;
         }
     }
@@ -141,6 +124,7 @@ pub fn loose_from(lines: &[u32], l: usize, from: usize) -> usize
 }
 
 // The first of l lines at or after the hand, round the circle, that no tracker holds; l where there is none.
+#[tactic(auto, unfolding(crate::specs::Find::victim))]
 pub fn victim(lines: &[u32], l: usize, hand: usize) -> usize
     ensures { result ≡ victim lines.now l hand }
 {
@@ -152,8 +136,5 @@ pub fn victim(lines: &[u32], l: usize, hand: usize) -> usize
 pub fn after(l: usize, i: usize) -> usize
     ensures { result ≡ after l i }
 {
-    if l == 0 {
-        return 0;
-    }
-    if i < l - 1 { i + 1 } else { 0 }
+    if i < l.saturating_sub(1) { i + 1 } else { 0 }
 }

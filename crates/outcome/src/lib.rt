@@ -22,12 +22,11 @@ pub struct Turned {
 fn ends(shape: Shape, t: Tracker, more: Transfers, answer: Answer) -> Turned
     ensures { OnAnyRows (λ q. ends (says answer) shape t more q) result }
 {
-    let before = t.transfers;
     Turned {
         shape,
         tracker: Tracker::rest(),
         answer,
-        transfers: before.plus(more),
+        transfers: t.transfers.plus(more),
     }
 }
 
@@ -35,24 +34,21 @@ fn ends(shape: Shape, t: Tracker, more: Transfers, answer: Answer) -> Turned
 pub fn ends_read(shape: Shape, t: Tracker, more: Transfers, v: u32) -> Turned
     ensures { OnAnyRows (λ q. ends (read v (turns_of t)) shape t more q) result }
 {
-    let turns = tracker::one_more(t.turns);
-    ends(shape, t, more, Answer::Read(v, turns))
+    ends(shape, t, more, Answer::Read(v, tracker::one_more(t.turns)))
 }
 
 // The ending of a write that put v in, and one turn more.
 pub fn ends_done(shape: Shape, t: Tracker, more: Transfers) -> Turned
     ensures { OnAnyRows (λ q. ends (done (turns_of t)) shape t more q) result }
 {
-    let turns = tracker::one_more(t.turns);
-    ends(shape, t, more, Answer::Done(turns))
+    ends(shape, t, more, Answer::Done(tracker::one_more(t.turns)))
 }
 
 // The ending of a write whose group equals v, and one turn more.
 pub fn ends_same(shape: Shape, t: Tracker, more: Transfers) -> Turned
     ensures { OnAnyRows (λ q. ends (same (turns_of t)) shape t more q) result }
 {
-    let turns = tracker::one_more(t.turns);
-    ends(shape, t, more, Answer::Same(turns))
+    ends(shape, t, more, Answer::Same(tracker::one_more(t.turns)))
 }
 
 // The tracker goes on to another phase, with the transfers of this step.

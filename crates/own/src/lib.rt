@@ -33,24 +33,23 @@ impl Own {
 pub fn line_over(shape: Shape, e: u8, g: u32, lines: &[u32]) -> usize
     ensures { result ≡ line_over shape g lines.now e }
 {
-    let l = shape.l;
-    if !Geometry::in_limits_of(shape.top(), shape.n as u64) {
-        return l;
+    if !Geometry::in_limits_of(shape.top(), u64::from(shape.n)) {
+        return shape.l;
     }
-    line::line_of(lines, l, Geometry::block_over(e, shape.n, g) as u32)
+    line::line_of(lines, shape.l, Geometry::block_over(e, shape.n, g) as u32)
 }
 
 // The own lines over group g; a level past the top has none.
 pub fn find(shape: Shape, g: u32, lines: &[u32]) -> Own
     ensures { result ≡ own_of shape g lines.now }
 {
-    let one = line_over(shape, 1, g, lines);
-    if shape.top() <= 1 {
-        return Own { one, two: shape.l };
-    }
     Own {
-        one,
-        two: line_over(shape, 2, g, lines),
+        one: line_over(shape, 1, g, lines),
+        two: if shape.top() <= 1 {
+            shape.l
+        } else {
+            line_over(shape, 2, g, lines)
+        },
     }
 }
 
@@ -84,30 +83,26 @@ fn loose(w: u32) -> u32
 fn loosen(lines: &mut [u32], i: usize)
     ensures { lines.new ≡ loosened lines.old i }
 {
-    if lines.len() <= i {
-        return;
+    if i < lines.len() {
+        lines[i] = loose(lines[i]);
     }
-    lines[i] = loose(lines[i]);
 }
 
 // The own line of level e names nobody, where the phase keeps it.
 fn let_go_at(phase: Phase, own: Own, e: u8, lines: &mut [u32])
     ensures { lines.new ≡ pick (keeps_at phase e) (loosened lines.old (line_on own e)) lines.old }
 {
-    if !phase.keeps_at(e) {
-        return;
+    if phase.keeps_at(e) {
+        loosen(lines, own.at(e));
     }
-    loosen(lines, own.at(e));
 }
 
 // Of the own lines of levels 1 to top, those that the phase keeps name nobody.
 fn let_go_to(phase: Phase, own: Own, top: u8, lines: &mut [u32])
     ensures { lines.new ≡ let_go phase (line_on own) top lines.old }
 {
-    let mut e: u8 = 0;
-    while e < top {
-        e += 1;
-        let_go_at(phase, own, e, lines);
+    for e in 0..top {
+        let_go_at(phase, own, e + 1, lines);
     }
 }
 
@@ -115,6 +110,5 @@ fn let_go_to(phase: Phase, own: Own, top: u8, lines: &mut [u32])
 pub fn let_go(shape: Shape, t: Tracker, own: Own, lines: &mut [u32])
     ensures { lines.new ≡ let_go t.phase (line_on own) (top_of shape) lines.old }
 {
-    let phase = t.phase;
-    let_go_to(phase, own, shape.top(), lines);
+    let_go_to(t.phase, own, shape.top(), lines);
 }

@@ -2,15 +2,14 @@
 use mathlib.Core.Path.{◌≡◌, refl, sym, ap, ◌∙◌}
 use mathlib.Core.List.{List, [], ◌∷◌, ◌++◌}
 use mathlib.Core.Bool.{Bool, true, false}
-use mathlib.Core.Logic.{⊎_elim}
-use Prim.Native.Nat.{ℕ, suc, ◌+◌, ◌*◌, ◌/◌, ◌%◌, ◌≤◌, ◌<◌}
+use Prim.Native.Nat.{ℕ, suc, ◌+◌, ◌*◌, ◌/◌, ◌≤◌, ◌<◌}
 use native.Mathlib.Omega.{arith}
 use native.Mathlib.Numerals.{add-one}
-use lib.Dec.{eqb, ltb}
+use lib.Dec.{ltb}
 use lib.ListN.{length, get_or, set, length-set}
-use borrow.Author.Tests.{lt-ltb, le-ltb, le-leb, lt-leb, ltb-true, leb-true, eqb-true, eqb-false, eq-eqb, ne_eqb}
+use borrow.Author.Tests.{lt-ltb, le-ltb, le-leb, lt-leb, ltb-true, leb-true, eqb-true, eq-eqb}
 use Rattle.laws.specs.Choice.{pick, both}
-use Rattle.laws.proofs.Choice.{true-or-false, both_true, both_left, both_right}
+use Rattle.laws.proofs.Choice.{both_true, both_left, both_right}
 use Rattle.laws.specs.Bytes.{part, fits, put_w}
 use Rattle.laws.proofs.Put.{put_w-not}
 use Rattle.geometry.specs.declared.Shape.{Shape}
@@ -24,7 +23,7 @@ use Rattle.tracker.specs.Transfers.{none, plus}
 use Rattle.line.specs.Word.{block_of, changed, word, cleaned}
 use Rattle.line.specs.Find.{line_of, lowest_free, victim, after}
 use Rattle.line.proofs.Words.{changed-none}
-use Rattle.line.proofs.Find.{lowest_free-free}
+use Rattle.line.proofs.Find.{lowest_free-free, victim-≤}
 use Rattle.rules.specs.State.{Rows}
 use Rattle.rules.specs.Copies.{Copy, fetch, fetches, backs, tally}
 use Rattle.rules.specs.Place.{rows_fit, place_line, place_hand, written_back, back_of, place_memory, place_copies, Brought, filled, bring_in, create, drained, drain_copies}
@@ -43,23 +42,6 @@ fit-bytes l lines bytes e = eqb-true _ _ (both_right _ _ e)
 pub rows_fit_lem : (l : ℕ) (lines bytes : List ℕ) → l ≤ length lines → length bytes ≡ 64 * l → rows_fit l lines bytes ≡ true
 unfolding rows_fit
 rows_fit_lem l lines bytes h e = both_true _ _ (le-leb _ _ h) (eq-eqb _ _ e)
-
--- the tests of the lengths, way by way
-pub bytes-ragged : (m l : ℕ) → (m % 64 ≡ 0 → ⊥) → false ≡ eqb m (64 * l)
-bytes-ragged m l h = sym (ne_eqb m (64 * l) (λ e. h (omega arith)))
-
-pub bytes-even : (m l : ℕ) → m % 64 ≡ 0 → eqb (m / 64) l ≡ eqb m (64 * l)
-bytes-even m l h =
-    ⊎_elim (λ t. let e : m / 64 ≡ l = eqb-true _ _ t in t ∙ sym (eq-eqb m (64 * l) (omega arith)))
-    (λ f. f ∙ sym (ne_eqb m (64 * l) (λ (e : m ≡ 64 * l). eqb-false (m / 64) l f (omega arith)))) (true-or-false (eqb (m / 64) l))
-
-pub lines-short : (l : ℕ) (lines bytes : List ℕ) → length lines < l → false ≡ rows_fit l lines bytes
-unfolding rows_fit both
-lines-short l lines bytes h = rw (lt-leb _ _ h) refl
-
-pub lines-enough : (l : ℕ) (lines bytes : List ℕ) {f : Bool} → l ≤ length lines → f ≡ eqb (length bytes) (64 * l) → f ≡ rows_fit l lines bytes
-unfolding rows_fit both
-lines-enough l lines bytes h e = rw (le-leb _ _ h) e
 
 -- a line, a shape, copies and rows, as a function leaves them
 abbrev pub left : (line : ℕ) (shape : Shape) (copies : Transfers) (lines bytes memory : List ℕ) → Brought
@@ -154,12 +136,12 @@ module _ (shape : Shape) (lines bytes memory : List ℕ) {z : Transfers} (ez : z
       rw (e, ez) (sym (rw (f, lt-ltb _ _ h', lt-leb _ _ h', lt-ltb _ _ h', ← written-not lines bytes memory _ k, ← back-not lines _ k) refl))
 
   -- none is free, and every line is held
-  pub placed-none : (i : ℕ) → rows_fit shape.l lines bytes ≡ true → shape.l ≤ lowest_free lines shape.l → i ≡ victim lines shape.l shape.hand → shape.l ≤ i
-      → left i shape z lines bytes memory ≡ placed shape (rows lines bytes memory)
+  pub placed-none : rows_fit shape.l lines bytes ≡ true → shape.l ≤ lowest_free lines shape.l → shape.l ≤ victim lines shape.l shape.hand
+      → left shape.l shape z lines bytes memory ≡ placed shape (rows lines bytes memory)
   unfolding place_line place_hand place_memory place_copies tally fetches backs both
-  placed-none i f o e h =
-      let h' : shape.l ≤ victim lines shape.l shape.hand = omega arith in
-      rw (e, ez) (sym (rw (f, le-ltb _ _ o, le-leb _ _ o, le-ltb _ _ h') refl))
+  placed-none f o h =
+      let e : victim lines shape.l shape.hand ≡ shape.l = omega (arith, victim-≤ lines shape.l shape.hand) in
+      rw ez (sym (rw (f, le-ltb _ _ o, le-leb _ _ o, e, le-ltb shape.l shape.l (omega arith)) refl))
 
 module _ (shape : Shape) (lines bytes memory : List ℕ) where
   pub placed-victim : (i next : ℕ) (y : Shape) (z : Transfers) (m : List ℕ) → rows_fit shape.l lines bytes ≡ true → shape.l ≤ lowest_free lines shape.l → i ≡ victim lines shape.l shape.hand → i < shape.l

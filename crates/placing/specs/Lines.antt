@@ -1,5 +1,5 @@
 -- What placing, bringing in and draining promise of rows that are lent, 01 "The cache", with the sums of their copies, 02 E4.
-use Rattle.std.specs.Prelude.{List, [], ◌∷◌, ◌++◌, false, ℕ, ltb}
+use Rattle.std.specs.Prelude.{List, [], ◌∷◌, ◌++◌, false, ℕ, ltb, Option, Some, None}
 use Rattle.laws.specs.Choice.{pick}
 use Rattle.geometry.specs.declared.Shape.{Shape}
 use Rattle.geometry.specs.Shape.{at_hand}
@@ -41,6 +41,11 @@ fetched shape b r =
 -- what a function leaves: the line, the shape, the rows and the copies
 abbrev pub brought : Spot → List ℕ → List ℕ → List ℕ → Brought
 brought r lines bytes memory = record { line = r.line; shape = r.shape; rows = rows lines bytes memory; copies = r.copies }
+
+-- the same, where a line may be taken: with none it is line L, with the shape as it came and no copies
+abbrev pub brought_if : Shape → Option Spot → List ℕ → List ℕ → List ℕ → Brought
+brought_if shape (Some s) lines bytes memory = brought s lines bytes memory
+brought_if shape None lines bytes memory = record { line = shape.l; shape = shape; rows = rows lines bytes memory; copies = none }
 
 -- rows that are drained, and the copies of that
 pub record Drained : Type 0 where

@@ -2,15 +2,15 @@
 // No public function has a `requires`: where the rows are not of L lines, no line is taken and nothing changes.
 #![tactic(auto)]
 
-ghost use Rattle.std.specs.Prelude.{◌≡◌, List, ℕ, ◌+◌, ◌*◌, ◌≤◌, ◌<◌, eqb, length};
+ghost use Rattle.std.specs.Prelude.{◌≡◌, List, ℕ, ◌+◌, ◌*◌, ◌≤◌, ◌<◌, eqb, length, IfSome};
 ghost use Rattle.rules.specs.Copies.{tally};
 ghost use Rattle.rules.specs.Place.{rows_fit, written_back, back_of, filled, bring_in, create};
-ghost use Rattle.placing.specs.Lines.{rows, placed, fetched, brought, all_drained, drained_on, leaves};
+ghost use Rattle.placing.specs.Lines.{rows, placed, fetched, brought_if, all_drained, drained_on, leaves};
 
 use geometry::{Geometry, Shape};
 use tracker::Transfers;
 
-// A line, L for none, the shape with its hand, and the sums of the copies that were made.
+// A line that has the block or that it was placed in, the shape with its hand, and the sums of the copies that were made.
 #[derive(Drop)]
 pub struct Spot {
     pub line: usize,
@@ -22,20 +22,15 @@ pub struct Spot {
 pub fn bytes_fit(l: usize, bytes: &[u8]) -> bool
     ensures { result ≡ eqb (length bytes.now) (64 * l) }
 {
-    if bytes.len() % Geometry::BLOCK_LEN != 0 {
-        return false;
-    }
-    bytes.len() / Geometry::BLOCK_LEN == l
+    bytes.len() % Geometry::BLOCK_LEN == 0 && bytes.len() / Geometry::BLOCK_LEN == l
 }
 
 // The rows are of L lines.
+#[tactic(auto, unfolding(rules::specs::Place::rows_fit, laws::specs::Choice::both))]
 pub fn rows_fit(l: usize, lines: &[u32], bytes: &[u8]) -> bool
     ensures { result ≡ rows_fit l lines.now bytes.now }
 {
-    if lines.len() < l {
-        return false;
-    }
-    bytes_fit(l, bytes)
+    l <= lines.len() && bytes_fit(l, bytes)
 }
 
 // Line i, if it is changed, straight from its bytes to its block's own place in memory; the sums of this copy.
@@ -55,41 +50,33 @@ fn write_back(i: usize, lines: &[u32], bytes: &[u8], memory: &mut [u8]) -> Trans
     }
 }
 
-// Placing a block: the line to take, written back if it was changed, and the shape with its hand.
-pub fn place(shape: Shape, lines: &[u32], bytes: &[u8], memory: &mut [u8]) -> Spot
-    ensures { brought result lines.now bytes.now memory.new ≡ placed shape (rows lines.now bytes.now memory.old) }
+// Placing a block: the line to take, written back if it was changed, and the shape with its hand; none where no line can be taken.
+pub fn place(shape: Shape, lines: &[u32], bytes: &[u8], memory: &mut [u8]) -> Option<Spot>
+    ensures line { IfSome result (λ s. s.line < shape.l) }
+    ensures left { brought_if shape result lines.now bytes.now memory.new ≡ placed shape (rows lines.now bytes.now memory.old) }
 {
     let l = shape.l;
-    let none = Transfers::none();
     if !rows_fit(l, lines, bytes) {
-        return Spot {
-            line: l,
-            shape,
-            copies: none,
-        };
+        return None;
     }
     let free = line::lowest_free(lines, l);
     if free < l {
-        return Spot {
+        return Some(Spot {
             line: free,
             shape,
-            copies: none,
-        };
+            copies: Transfers::none(),
+        });
     }
     let i = line::victim(lines, l, shape.hand);
     if l <= i {
-        return Spot {
-            line: i,
-            shape,
-            copies: none,
-        };
+        return None;
     }
     let copies = write_back(i, lines, bytes, memory);
-    Spot {
+    Some(Spot {
         line: i,
         shape: shape.at_hand(line::after(l, i)),
         copies,
-    }
+    })
 }
 
 // Line i has block b with these bytes, changed or clean; line bytes that have no such line stay as they were.
@@ -105,39 +92,33 @@ fn fill(
     ensures { (m : List ℕ) → rows lines.new bytes.new m ≡ filled (rows lines.old bytes.old m) i b changed block.now }
 {
     lines[i] = line::word(b, changed, 0);
-    if bytes.len() / Geometry::BLOCK_LEN <= i {
-        return;
+    if i < bytes.len() / Geometry::BLOCK_LEN {
+        block::write_block(bytes, Geometry::BLOCK_LEN * i, block);
     }
-    block::write_block(bytes, Geometry::BLOCK_LEN * i, block);
 }
 
 // Bringing in a block that no line has: it is placed, and its 64 bytes are copied from memory, clean.
-pub fn fetch(shape: Shape, b: u32, lines: &mut [u32], bytes: &mut [u8], memory: &mut [u8]) -> Spot
-    ensures { brought result lines.new bytes.new memory.new ≡ fetched shape b (rows lines.old bytes.old memory.old) }
+pub fn fetch(
+    shape: Shape,
+    b: u32,
+    lines: &mut [u32],
+    bytes: &mut [u8],
+    memory: &mut [u8],
+) -> Option<Spot>
+    ensures line { IfSome result (λ s. s.line < shape.l) }
+    ensures left { brought_if shape result lines.new bytes.new memory.new ≡ fetched shape b (rows lines.old bytes.old memory.old) }
 {
-    let l = shape.l;
-    let spot = place(shape, lines, bytes, memory);
-    let p = spot.line;
-    if l <= p {
-        return Spot {
-            line: l,
-            shape,
-            copies: Transfers::none(),
-        };
-    }
+    let spot = place(shape, lines, bytes, memory)?;
     let block = block::read_block(memory, Geometry::block_place(b));
-    fill(p, b, false, &block, lines, bytes);
-    let next = spot.shape;
-    let copies = spot.copies;
+    fill(spot.line, b, false, &block, lines, bytes);
     let one = Transfers {
         fetched: 1,
         back: 0,
     };
-    Spot {
-        line: p,
-        shape: next,
-        copies: copies.plus(one),
-    }
+    Some(Spot {
+        copies: spot.copies.plus(one),
+        ..spot
+    })
 }
 
 // Bringing in block b: the line that has it, else it is fetched.
@@ -147,17 +128,17 @@ pub fn bring_in(
     lines: &mut [u32],
     bytes: &mut [u8],
     memory: &mut [u8],
-) -> Spot
-    ensures { brought result lines.new bytes.new memory.new ≡ bring_in shape b (rows lines.old bytes.old memory.old) }
+) -> Option<Spot>
+    ensures line { IfSome result (λ s. s.line < shape.l) }
+    ensures left { brought_if shape result lines.new bytes.new memory.new ≡ bring_in shape b (rows lines.old bytes.old memory.old) }
 {
-    let l = shape.l;
-    let i = line::line_of(lines, l, b);
-    if i < l {
-        return Spot {
+    let i = line::line_of(lines, shape.l, b);
+    if i < shape.l {
+        return Some(Spot {
             line: i,
             shape,
             copies: Transfers::none(),
-        };
+        });
     }
     fetch(shape, b, lines, bytes, memory)
 }
@@ -170,31 +151,22 @@ pub fn create(
     lines: &mut [u32],
     bytes: &mut [u8],
     memory: &mut [u8],
-) -> Spot
-    ensures { brought result lines.new bytes.new memory.new ≡ create shape b block.now (rows lines.old bytes.old memory.old) }
+) -> Option<Spot>
+    ensures line { IfSome result (λ s. s.line < shape.l) }
+    ensures left { brought_if shape result lines.new bytes.new memory.new ≡ create shape b block.now (rows lines.old bytes.old memory.old) }
 {
-    let l = shape.l;
-    let none = Transfers::none();
-    let i = line::line_of(lines, l, b);
-    if i < l {
+    let i = line::line_of(lines, shape.l, b);
+    if i < shape.l {
         fill(i, b, true, block, lines, bytes);
-        return Spot {
+        return Some(Spot {
             line: i,
             shape,
-            copies: none,
-        };
+            copies: Transfers::none(),
+        });
     }
-    let spot = place(shape, lines, bytes, memory);
-    let p = spot.line;
-    if l <= p {
-        return Spot {
-            line: l,
-            shape,
-            copies: none,
-        };
-    }
-    fill(p, b, true, block, lines, bytes);
-    spot
+    let spot = place(shape, lines, bytes, memory)?;
+    fill(spot.line, b, true, block, lines, bytes);
+    Some(spot)
 }
 
 // Changed lines to memory, lowest line first, and marked clean, in rows that are of L lines; the sums of these copies.
@@ -203,12 +175,9 @@ fn drain_all(l: usize, lines: &mut [u32], bytes: &[u8], memory: &mut [u8]) -> Tr
     ensures { leaves result lines.new bytes.now memory.new ≡ all_drained l (rows lines.old bytes.now memory.old) }
 {
     let mut copies = Transfers::none();
-    let mut i = 0;
-    while i < l {
-        let back = write_back(i, lines, bytes, memory);
-        copies = copies.plus(back);
+    for i in 0..l {
+        copies = copies.plus(write_back(i, lines, bytes, memory));
         lines[i] = line::cleaned(lines[i]);
-        i += 1;
     }
     copies
 }
@@ -217,9 +186,9 @@ fn drain_all(l: usize, lines: &mut [u32], bytes: &[u8], memory: &mut [u8]) -> Tr
 pub fn drain(shape: Shape, lines: &mut [u32], bytes: &[u8], memory: &mut [u8]) -> Transfers
     ensures { leaves result lines.new bytes.now memory.new ≡ drained_on shape (rows lines.old bytes.now memory.old) }
 {
-    let l = shape.l;
-    if !rows_fit(l, lines, bytes) {
-        return Transfers::none();
+    if rows_fit(shape.l, lines, bytes) {
+        drain_all(shape.l, lines, bytes, memory)
+    } else {
+        Transfers::none()
     }
-    drain_all(l, lines, bytes, memory)
 }

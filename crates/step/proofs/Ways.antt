@@ -6,12 +6,12 @@ use Prim.Native.Nat.{ℕ, suc, ◌+◌, ◌*◌, ◌≤◌, ◌<◌}
 use native.Mathlib.Omega.{arith}
 use lib.Dec.{eqb, ltb, leb}
 use lib.ListN.{length, get_or, set}
-use borrow.Author.Tests.{lt-ltb, le-ltb, le-leb, lt-leb, leb-true, ltb-true, eqb-true}
+use borrow.Author.Tests.{eq-eqb, lt-ltb, le-ltb, leb-true, ltb-true, eqb-true}
 use Rattle.geometry.specs.declared.Shape.{Shape}
 use Rattle.geometry.specs.Shape.{below_top, top_of}
-use Rattle.geometry.specs.TagMemory.{groups, in_limits_of, length_of, map_byte_of, map_bit_of, index, block_over}
+use Rattle.geometry.specs.TagMemory.{groups, in_limits_of, map_byte_of, map_bit_of, index, block_over}
 use Rattle.laws.specs.Choice.{pick, both}
-use Rattle.laws.proofs.Choice.{both_left, both_right, both-false-left, both-false-right}
+use Rattle.laws.proofs.Choice.{both_true, both_left, both_right}
 use Rattle.block.specs.Block.{put_bit}
 use Rattle.tracker.specs.declared.Phase.{Phase}
 use Rattle.tracker.specs.declared.Phase.TheVariants.{Probe, Under, Set, Clear}
@@ -20,7 +20,7 @@ use Rattle.tracker.specs.declared.Tracker.{Tracker}
 use Rattle.tracker.specs.Transfers.{none}
 use Rattle.tracker.specs.Tracker.{level_of}
 use Rattle.tracker.specs.Answer.{read, done, same}
-use Rattle.line.specs.Word.{block_of, holder, held, held_by, word, holders}
+use Rattle.line.specs.Word.{held, held_by, holders}
 use Rattle.line.specs.Find.{line_of}
 use Rattle.rules.specs.State.{Rows, lengths_right}
 use Rattle.rules.specs.Place.{rows_fit, Brought, bring_in}
@@ -35,34 +35,26 @@ use Rattle.leaf.proofs.Ways.{probe_on-fit}
 use Rattle.step.specs.Step.{holds_it, changed_at}
 
 -- the accesses that bit 0 ends
-module _ (t : Tracker) where
-  pub asks_write : t.write ≡ true → eqb t.value 0 ≡ asks_zero t
-  asks_write w = rw w refl
+module _ (t : Tracker) (shape : Shape) (more : Transfers) (r : Rows) where
+  pub zero-write : t.write ≡ true → ends (says_zero t) shape t more r ≡ ends (same (turns_of t)) shape t more r
+  zero-write w = rw w refl
 
-  pub asks_read : t.write ≡ false → true ≡ asks_zero t
-  asks_read w = rw w refl
-
-  module _ (shape : Shape) (more : Transfers) (r : Rows) where
-    pub zero-write : t.write ≡ true → ends (says_zero t) shape t more r ≡ ends (same (turns_of t)) shape t more r
-    zero-write w = rw w refl
-
-    pub zero-read : t.write ≡ false → ends (says_zero t) shape t more r ≡ ends (read 0 (turns_of t)) shape t more r
-    zero-read w = rw w refl
+  pub zero-read : t.write ≡ false → ends (says_zero t) shape t more r ≡ ends (read 0 (turns_of t)) shape t more r
+  zero-read w = rw w refl
 
 pub holds-is : (x d i : ℕ) (shape : Shape) (more : Transfers) (w : ℕ) (t : Tracker) (lines bs m : List ℕ) → w ≡ held_by (get_or lines i 0) (x + 1)
     → holds_it x d t (left i shape more lines bs m) ≡ goes t (Under d) more shape (rows (set lines i w) bs m)
 holds-is x d i shape more w t lines bs m e = rw e refl
 
 -- by the bit and what the access asks
-module _ (x : ℕ) (own : ℕ → ℕ) (d bit : ℕ) (t : Tracker) (b : Brought) {asks zero : Bool} (eb : bit ≡ bit_in b.rows.bytes b.line d t.group) (ea : asks ≡ asks_zero t)
-    (ez : zero ≡ both (eqb bit 0) asks) where
-  pub descend-ends : zero ≡ true → descend x own d t b ≡ lets_go (says_zero t) b.shape t b.copies own b.rows
+module _ (x : ℕ) (own : ℕ → ℕ) (d bit : ℕ) (t : Tracker) (b : Brought) (eb : bit ≡ bit_in b.rows.bytes b.line d t.group) where
+  pub descend-ends : bit ≡ 0 → asks_zero t ≡ true → descend x own d t b ≡ lets_go (says_zero t) b.shape t b.copies own b.rows
   unfolding descend
-  descend-ends h = rw (← eb, ← ea, ← ez, h) refl
+  descend-ends z a = rw (← eb, both_true _ _ (eq-eqb bit 0 z) a) refl
 
-  pub descend-holds : zero ≡ false → descend x own d t b ≡ holds_it x d t b
+  pub descend-holds : both (eqb bit 0) (asks_zero t) ≡ false → descend x own d t b ≡ holds_it x d t b
   unfolding descend
-  descend-holds h = rw (← eb, ← ea, ← ez, h) refl
+  descend-holds h = rw (← eb, h) refl
 
 -- Top; its line is the one found
 module _ (shape : Shape) (x i : ℕ) (t : Tracker) (lines bytes memory : List ℕ) (own : Own) (o : Owns own shape t.group lines) (e : i ≡ line_on own (top_of shape)) where
@@ -114,13 +106,6 @@ module _ (shape : Shape) (s : Bool) (d j : ℕ) (t : Tracker) (lines bytes m : L
       rw (← its-line, lt-ltb _ _ h, le-ltb (suc d) (top_of shape) (omega arith), en, eg, el, eb)
       (sym (lets_go-own own shape t (rows lines bytes m) o shape refl (done (turns_of t)) none (bit_put s d j t (rows lines bytes m))))
 
-pub bit_is : (d j g v k y z : ℕ) (bytes : List ℕ) {bs : List ℕ} → k ≡ index d g → y ≡ map_byte_of k → z ≡ map_bit_of k → bs ≡ put_bit bytes (64 * j + y) z v
-    → bs ≡ put_bit bytes (64 * j + map_byte_of (index d g)) (map_bit_of (index d g)) v
-bit_is d j g v k y z bytes ek ey ez eb = eb ∙ rw (ey, ez, ek) refl
-
-pub change-is : (lines : List ℕ) (j b h w : ℕ) → b ≡ block_of (get_or lines j 0) → h ≡ holder (get_or lines j 0) → w ≡ word b true h → set lines j w ≡ changed_at lines j
-change-is lines j b h w eb eh ew = rw (ew, eb, eh) refl
-
 -- the phase that the tracker is at; 01's device has one level below the top
 level-0 : (shape : Shape) {d : ℕ} → d < top_of shape → d ≡ 0
 unfolding below_top
@@ -159,26 +144,6 @@ module _ (shape : Shape) (x : ℕ) (t : Tracker) (r : Rows) where
   abbrev its : Bool
   its = both (ltb t.group (groups shape.n)) (ltb (level_of t.phase) (top_of shape))
 
-  pub fit-limits : in_limits_of (top_of shape) shape.n ≡ false → false ≡ fit shape x t r
-  unfolding fit
-  fit-limits e = sym (both-false-left _ _ (both-false-left _ _ e))
-
-  pub fit-lines : length r.lines < shape.l → false ≡ fit shape x t r
-  unfolding fit
-  fit-lines h = sym (both-false-left _ _ (both-false-right (in_limits_of (top_of shape) shape.n) _ (lt-leb _ _ h)))
-
-  pub fit-group : groups shape.n ≤ t.group → false ≡ fit shape x t r
-  unfolding fit
-  fit-group h = sym (both-false-right device _ (both-false-left _ _ (both-false-left _ _ (le-ltb _ _ h))))
-
-  pub fit-level : top_of shape ≤ level_of t.phase → false ≡ fit shape x t r
-  unfolding fit
-  fit-level h = sym (both-false-right device _ (both-false-left _ _ (both-false-right (ltb t.group (groups shape.n)) _ (le-ltb _ _ h))))
-
-  pub fit-rest : in_limits_of (top_of shape) shape.n ≡ true → shape.l ≤ length r.lines → t.group < groups shape.n → level_of t.phase < top_of shape → ltb x holders ≡ fit shape x t r
-  unfolding fit both
-  fit-rest e h g l = rw (e, le-leb _ _ h, lt-ltb _ _ g, lt-ltb _ _ l) refl
-
   module _ (f : fit shape x t r ≡ true) where
     pub fit_n : in_limits_of (top_of shape) shape.n ≡ true
     unfolding fit
@@ -201,14 +166,6 @@ module _ (shape : Shape) (x : ℕ) (t : Tracker) (r : Rows) where
     fit-x = ltb-true _ _ (both_right its _ (both_right device _ f))
 
 module _ (shape : Shape) (bytes memory : List ℕ) where
-  pub lengths-bytes : eqb (length bytes) (64 * shape.l) ≡ false → false ≡ lengths_right shape bytes memory
-  unfolding lengths_right
-  lengths-bytes e = sym (both-false-left _ _ e)
-
-  pub lengths-memory : {top z : ℕ} → eqb (length bytes) (64 * shape.l) ≡ true → top ≡ top_of shape → z ≡ length_of top shape.n → eqb (length memory) z ≡ lengths_right shape bytes memory
-  unfolding lengths_right both
-  lengths-memory e et ez = rw (e, ez, et) refl
-
   pub lengths-l : lengths_right shape bytes memory ≡ true → length bytes ≡ 64 * shape.l
   unfolding lengths_right
   lengths-l f = eqb-true _ _ (both_left _ _ f)

@@ -26,7 +26,7 @@ use tracker::{Phase, Tracker, Transfers};
 fn asks_zero(t: Tracker) -> bool
     ensures { result ≡ asks_zero t }
 {
-    if t.write { t.value == 0 } else { true }
+    !t.write || t.value == 0
 }
 
 // A read ends with 0, a write of 0 "same".
@@ -63,11 +63,9 @@ fn descend(
     requires { (x < holders) × (spot.line < length lines.old) }
     ensures { (m : List ℕ) → turned result lines.new bytes.now m ≡ descend x (line_on own) d t (brought spot lines.old bytes.now m) }
 {
-    let bit = own::bit_in(bytes, spot.line, d, t.group);
-    if laws::both(bit == 0, asks_zero(t)) {
-        let next = spot.shape;
-        own::let_go(next, t, own, lines);
-        return ends_zero(next, t, spot.copies);
+    if own::bit_in(bytes, spot.line, d, t.group) == 0 && asks_zero(t) {
+        own::let_go(spot.shape, t, own, lines);
+        return ends_zero(spot.shape, t, spot.copies);
     }
     holds(x, d, spot, t, lines)
 }
@@ -84,12 +82,10 @@ fn top(
     requires { (in_limits_of (top_of shape) shape.n ≡ true) × (t.group < groups shape.n) × (x < holders) × (shape.l ≤ length lines.old) }
     ensures { turned result lines.new bytes.new memory.new ≡ top shape x t (rows lines.old bytes.old memory.old) }
 {
-    let l = shape.l;
-    let g = t.group;
     let below = shape.below_top();
-    let own = own::find(shape, g, lines);
+    let own = own::find(shape, t.group, lines);
     let i = own.at(shape.top());
-    if i < l {
+    if i < shape.l {
         if line::held(lines[i]) {
             return outcome::waits(shape, t);
         }
@@ -100,12 +96,10 @@ fn top(
         };
         return descend(x, own, below, lined, t, lines, bytes);
     }
-    let b = Geometry::block_over(shape.top(), shape.n, g) as u32;
-    let spot = placing::fetch(shape, b, lines, bytes, memory);
-    let at = spot.line;
-    if l <= at {
+    let b = Geometry::block_over(shape.top(), shape.n, t.group) as u32;
+    let Some(spot) = placing::fetch(shape, b, lines, bytes, memory) else {
         return outcome::refuses(4, shape, t);
-    }
+    };
     descend(x, own, below, spot, t, lines, bytes)
 }
 
@@ -137,13 +131,12 @@ fn finish(shape: Shape, set: bool, d: u8, t: Tracker, lines: &mut [u32], bytes: 
     requires { (in_limits_of (top_of shape) shape.n ≡ true) × (suc d ≡ top_of shape) × (shape.l ≤ length lines.old) × (length bytes.old ≡ 64 * shape.l) }
     ensures { (m : List ℕ) → turned result lines.new bytes.new m ≡ finish shape set d t (rows lines.old bytes.old m) }
 {
-    let g = t.group;
-    let own = own::find(shape, g, lines);
+    let own = own::find(shape, t.group, lines);
     let j = own.at(shape.top());
     if shape.l <= j {
         return outcome::refuses(4, shape, t);
     }
-    put_bit(set, d, j, g, bytes);
+    put_bit(set, d, j, t.group, bytes);
     change(lines, j);
     own::let_go(shape, t, own, lines);
     outcome::ends_done(shape, t, Transfers::none())
@@ -161,8 +154,7 @@ fn by_phase(
     requires { (in_limits_of (top_of shape) shape.n ≡ true) × (t.group < groups shape.n) × (level_of t.phase < top_of shape) × (x < holders) × (shape.l ≤ length lines.old) × (length bytes.old ≡ 64 * shape.l) }
     ensures { turned result lines.new bytes.new memory.new ≡ by_phase shape x t (rows lines.old bytes.old memory.old) t.phase }
 {
-    let phase = t.phase;
-    match phase {
+    match t.phase {
         Phase::Idle => outcome::refuses(8, shape, t),
         Phase::Probe(_) => leaf::probe(shape, t, lines, bytes),
         Phase::Top => top(shape, x, t, lines, bytes, memory),
@@ -173,34 +165,25 @@ fn by_phase(
 }
 
 // What a step can rely on: the device exists, L lines, the tracker's group and its phase's level exist, its number fits a line's word.
+#[tactic(auto, unfolding(rules::specs::Step::fit, laws::specs::Choice::both))]
 fn fit(shape: Shape, x: u32, t: Tracker, lines: &[u32]) -> bool
     ensures { (bs m : List ℕ) → result ≡ fit shape x t (rows lines.now bs m) }
 {
     let top = shape.top();
-    if !Geometry::in_limits_of(top, shape.n as u64) {
-        return false;
-    }
-    if lines.len() < shape.l {
-        return false;
-    }
-    if Geometry::groups(shape.n) <= t.group as u64 {
-        return false;
-    }
-    let phase = t.phase;
-    if top <= phase.level() {
-        return false;
-    }
-    x < line::HOLDERS
+    Geometry::in_limits_of(top, u64::from(shape.n))
+        && shape.l <= lines.len()
+        && u64::from(t.group) < Geometry::groups(shape.n)
+        && t.phase.level() < top
+        && x < line::HOLDERS
 }
 
 // The line bytes and memory have their lengths.
+#[tactic(auto, unfolding(rules::specs::State::lengths_right, laws::specs::Choice::both))]
 pub fn lengths_right(shape: Shape, bytes: &[u8], memory: &[u8]) -> bool
     ensures { result ≡ lengths_right shape bytes.now memory.now }
 {
-    if !placing::bytes_fit(shape.l, bytes) {
-        return false;
-    }
-    memory.len() as u64 == Geometry::length_of(shape.top(), shape.n)
+    placing::bytes_fit(shape.l, bytes)
+        && memory.len() as u64 == Geometry::length_of(shape.top(), shape.n)
 }
 
 // One step of tracker x, which is t.

@@ -9,8 +9,9 @@ ghost use Rattle.laws.specs.Choice.{pick};
 
 // Where a tracker stands. Probe and Under are of a level: on 01's device Under(0) is its Leaf, and Top its Map. Finish is two, Set and Clear, by what it
 // does to the bit over a block of a level.
-#[derive(Clone, Copy)]
+#[derive(Clone, Copy, PartialEq, Eq, Default)]
 pub enum Phase {
+    #[default]
     Idle,
     Probe(u8),
     Top,
@@ -25,40 +26,31 @@ impl Phase {
         ensures { result ≡ level_of self }
     {
         match self {
-            Phase::Idle => 0,
-            Phase::Probe(d) => d,
-            Phase::Top => 0,
-            Phase::Under(d) => d,
-            Phase::Set(d) => d,
-            Phase::Clear(d) => d,
+            Phase::Idle | Phase::Top => 0,
+            Phase::Probe(d) | Phase::Under(d) | Phase::Set(d) | Phase::Clear(d) => d,
         }
     }
 
     // The block of level e, 1 and up, must be in a line.
+    #[tactic(auto, unfolding(crate::specs::Tracker::asks_at, laws::specs::Choice::both))]
     pub fn asks_at(self, e: u8) -> bool
         ensures { result ≡ asks_at self e }
     {
         match self {
-            Phase::Idle => false,
-            Phase::Probe(_) => false,
-            Phase::Top => false,
-            Phase::Under(d) => d < e,
-            Phase::Set(d) => d < e,
-            Phase::Clear(d) => d < e,
+            Phase::Idle | Phase::Probe(_) | Phase::Top => false,
+            Phase::Under(d) | Phase::Set(d) | Phase::Clear(d) => d < e,
         }
     }
 
     // The line of the block of level e, 1 and up, is not replaced.
+    #[tactic(auto, unfolding(crate::specs::Tracker::keeps_at, laws::specs::Choice::both))]
     pub fn keeps_at(self, e: u8) -> bool
         ensures { result ≡ keeps_at self e }
     {
         match self {
-            Phase::Idle => false,
-            Phase::Probe(_) => false,
-            Phase::Top => false,
+            Phase::Idle | Phase::Probe(_) | Phase::Top => false,
             Phase::Under(d) => d < e,
-            Phase::Set(_) => 0 < e,
-            Phase::Clear(_) => 0 < e,
+            Phase::Set(_) | Phase::Clear(_) => 0 < e,
         }
     }
 
@@ -66,10 +58,7 @@ impl Phase {
     pub fn after_probe(top: u8, d: u8) -> Phase
         ensures { result ≡ after_probe top d }
     {
-        if top <= d {
-            return Phase::Top;
-        }
-        if d + 1 < top {
+        if d < top && d + 1 < top {
             Phase::Probe(d + 1)
         } else {
             Phase::Top
@@ -87,14 +76,14 @@ pub struct Access {
 }
 
 // Blocks fetched from memory and blocks written back to it.
-#[derive(Clone, Copy)]
+#[derive(Clone, Copy, Default)]
 pub struct Transfers {
     pub fetched: u8,
     pub back: u8,
 }
 
 // One access under way, with what its steps have transferred; `bottom` stays after Probe. An idle tracker that ended has every field zero.
-#[derive(Clone, Copy)]
+#[derive(Clone, Copy, Default)]
 pub struct Tracker {
     pub phase: Phase,
     pub write: bool,
@@ -117,32 +106,11 @@ pub enum Answer {
     No(u8),
 }
 
-// The most turns that are counted.
-pub const MOST_TURNS: u16 = 65535;
-
-// One turn more; it stays at the most once there.
+// One turn more; it stays at 65,535 once there.
 pub fn one_more(turns: u16) -> u16
     ensures { result ≡ tick turns }
 {
-    if turns < MOST_TURNS {
-        turns + 1
-    } else {
-        MOST_TURNS
-    }
-}
-
-// The most blocks fetched, or written back, that are counted.
-pub const MOST_TRANSFERS: u8 = 255;
-
-// So many more; it stays at the most once there.
-fn add(a: u8, k: u8) -> u8
-    ensures { result ≡ min (a + k) most_transfers }
-{
-    if a < MOST_TRANSFERS - k {
-        a + k
-    } else {
-        MOST_TRANSFERS
-    }
+    turns.saturating_add(1)
 }
 
 impl Transfers {
@@ -150,35 +118,18 @@ impl Transfers {
     pub fn none() -> Transfers
         ensures { result ≡ none }
     {
-        Transfers {
-            fetched: 0,
-            back: 0,
-        }
+        Transfers::default()
     }
 
-    // Those of both.
+    // Those of both; each sum stays at 255 once there.
     pub fn plus(self, more: Transfers) -> Transfers
         ensures { result ≡ plus self more }
     {
         Transfers {
-            fetched: add(self.fetched, more.fetched),
-            back: add(self.back, more.back),
+            fetched: self.fetched.saturating_add(more.fetched),
+            back: self.back.saturating_add(more.back),
         }
     }
-}
-
-// Where an access begins.
-fn first_phase(bottom: bool) -> Phase
-    ensures { result ≡ first_phase bottom }
-{
-    if bottom { Phase::Probe(0) } else { Phase::Top }
-}
-
-// The value of a write; a read has none, and keeps 0.
-fn written(write: bool, v: u32) -> u32
-    ensures { result ≡ pick write v 0 }
-{
-    if write { v } else { 0 }
 }
 
 impl Access {
@@ -212,29 +163,24 @@ impl Tracker {
     pub fn rest() -> Tracker
         ensures { result ≡ idle }
     {
-        Tracker {
-            phase: Phase::Idle,
-            write: false,
-            bottom: false,
-            group: 0,
-            value: 0,
-            turns: 0,
-            transfers: Transfers::none(),
-        }
+        Tracker::default()
     }
 
-    // An access at its first phase.
+    // An access at its first phase; a read has no value, and keeps 0.
     pub fn begin(access: Access) -> Tracker
         ensures { result ≡ issued access }
     {
         Tracker {
-            phase: first_phase(access.bottom),
+            phase: if access.bottom {
+                Phase::Probe(0)
+            } else {
+                Phase::Top
+            },
             write: access.write,
             bottom: access.bottom,
             group: access.group,
-            value: written(access.write, access.value),
-            turns: 0,
-            transfers: Transfers::none(),
+            value: if access.write { access.value } else { 0 },
+            ..Tracker::rest()
         }
     }
 
@@ -244,12 +190,9 @@ impl Tracker {
     {
         Tracker {
             phase,
-            write: self.write,
-            bottom: self.bottom,
-            group: self.group,
-            value: self.value,
             turns: one_more(self.turns),
             transfers,
+            ..self
         }
     }
 
@@ -257,31 +200,20 @@ impl Tracker {
     pub fn go_to(self, phase: Phase, more: Transfers) -> Tracker
         ensures { result ≡ goes_to self phase more }
     {
-        let before = self.transfers;
-        self.at(phase, before.plus(more))
+        self.at(phase, self.transfers.plus(more))
     }
 
     // The tracker where it is, one turn more.
     pub fn count(self) -> Tracker
         ensures { result ≡ counted self }
     {
-        let phase = self.phase;
-        let transfers = self.transfers;
-        self.at(phase, transfers)
+        self.at(self.phase, self.transfers)
     }
 
     // The tracker has no access.
     pub fn is_idle(self) -> bool
         ensures { result ≡ is_idle self }
     {
-        let phase = self.phase;
-        match phase {
-            Phase::Idle => true,
-            Phase::Probe(_) => false,
-            Phase::Top => false,
-            Phase::Under(_) => false,
-            Phase::Set(_) => false,
-            Phase::Clear(_) => false,
-        }
+        self.phase == Phase::Idle
     }
 }

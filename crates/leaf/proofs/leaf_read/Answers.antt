@@ -4,12 +4,12 @@ use Rattle.outcome.proofs.Rule.{by-rule}
 use Rattle.leaf.proofs.Ways.{leaf_read-none, leaf_read-ends}
 use Rattle.leaf.proofs.leaf_read.Goals as goal
 
-pub returns-then-l-i : goal.returns-then-l-i
-returns-then-l-i c =
+pub returns-in_default : goal.returns-in_default
+returns-in_default c =
     let a = c.args in
-    by-rule (leaf_read-none a.own a.shape _ a.t a.lines.now a.bytes.now a.memory.now c.requires.0 c.leaf_of.ensures _ _ _ _ _ _ c.bring_in-spot.ensures (omega arith)) (c.refuses.ensures _ _ _)
+    by-rule (leaf_read-none a.own a.shape _ a.t a.lines.now a.bytes.now a.memory.now c.requires.0 c.leaf_of.ensures _ _ _ _ _ _ c.in_default.ensures.left (omega arith)) (c.refuses.ensures _ _ _)
 
 pub returns : goal.returns
 returns c =
     let a = c.args in
-    by-rule (leaf_read-ends a.own a.shape _ a.t a.lines.now a.bytes.now a.memory.now c.requires.0 c.leaf_of.ensures _ _ _ _ _ _ c.bring_in-spot.ensures _ (omega arith) c.group_in-v.ensures _ c.let_go.ensures) (c.ends_read.ensures _ _ _)
+    by-rule (leaf_read-ends a.own a.shape _ a.t a.lines.now a.bytes.now a.memory.now c.requires.0 c.leaf_of.ensures _ _ _ _ _ _ c.in-Some.ensures.left _ c.in-Some.ensures.line c.group_in-v.ensures _ c.let_go.ensures) (c.ends_read.ensures _ _ _)

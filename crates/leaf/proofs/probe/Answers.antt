@@ -13,8 +13,8 @@ pub returns-then-not-rows_fit : goal.returns-then-not-rows_fit
 returns-then-not-rows_fit c =
     λ m. by-rule (probe_on-misfit _ _ _ (sym c.rows_fit.ensures ∙ c.if-not-rows_fit.true)) (c.refuses.ensures _ _ m)
 
-pub returns-then-l-i : goal.returns-then-l-i
-returns-then-l-i c =
+pub returns-then-shape-i : goal.returns-then-shape-i
+returns-then-shape-i c =
     λ m. by-rule (probe_on-fit _ _ _ (sym c.rows_fit.ensures ∙ c.if-not-rows_fit.false) ∙ probe-none _ _ _ _ _ _ c.none-none.ensures c.top.ensures c.after_probe-next.ensures c.leaf_of.ensures c.line_of-i.ensures (omega arith)) (c.goes.ensures _ _ m)
 
 pub group_in-v-requires : goal.group_in-v-requires

@@ -1,24 +1,12 @@
 -- `put_in` meets its contract: all 64 bytes are zero, or not.
-use borrow.Author.Rules.{rules}
-use mathlib.Core.Path.{◌∙◌}
-use lib.ListN.{length-set}
-use Rattle.geometry.specs.TagMemory.{byte_of}
 use Rattle.outcome.proofs.Rule.{by-rule}
 use Rattle.leaf.proofs.Ways.{put_in-clears, put_in-ends}
 use Rattle.leaf.proofs.put_in.Goals as goal
-
-pub overflow_add-at : goal.overflow_add-at
-unfolding byte_of
-overflow_add-at c = search rules
 
 pub returns-then-all_zero : goal.returns-then-all_zero
 returns-then-all_zero c =
     let a = c.args in
     λ m. by-rule (put_in-clears a.own _ _ _ _ _ _ _ _ m c.byte_of.ensures c.put_group.ensures _ c.all_zero.ensures c.if-all_zero.true) (c.goes.ensures _ _ m)
-
-pub shape_of-lines : goal.shape_of-lines
-shape_of-lines c =
-    c.let_go.auto.lines ∙ simp length-set
 
 pub returns : goal.returns
 returns c =

@@ -9,12 +9,12 @@ returns-then-t-eq0 c =
     let a = c.args in
     by-rule (write_under0-same a.own a.shape a.t a.lines.now a.bytes.now a.memory.now c.requires _ c.none.ensures (omega arith) c.let_go.ensures) (c.ends_same.ensures _ _ _)
 
-pub returns-then-l-i : goal.returns-then-l-i
-returns-then-l-i c =
+pub returns-in_default : goal.returns-in_default
+returns-in_default c =
     let a = c.args in
-    by-rule (write_under0-none a.own a.shape a.t a.lines.now a.bytes.now a.memory.now c.requires _ _ (omega (arith, c.if-t-eq0.false)) c.leaf_of.ensures c.new_leaf-new.ensures _ _ _ _ _ _ c.create-spot.ensures (omega arith)) (c.refuses.ensures _ _ _)
+    by-rule (write_under0-none a.own a.shape a.t a.lines.now a.bytes.now a.memory.now c.requires _ _ (omega (arith, c.if-t-eq0.false)) c.leaf_of-leaf.ensures c.new_leaf-new.ensures _ _ _ _ _ _ c.in_default.ensures.left (omega arith)) (c.refuses.ensures _ _ _)
 
 pub returns : goal.returns
 returns c =
     let a = c.args in
-    by-rule (write_under0-on a.own a.shape a.t a.lines.now a.bytes.now a.memory.now c.requires _ _ (omega (arith, c.if-t-eq0.false)) c.leaf_of.ensures c.new_leaf-new.ensures _ _ _ _ _ _ c.create-spot.ensures (omega arith)) (c.goes.ensures _ _ _)
+    by-rule (write_under0-on a.own a.shape a.t a.lines.now a.bytes.now a.memory.now c.requires _ _ (omega (arith, c.if-t-eq0.false)) c.leaf_of-leaf.ensures c.new_leaf-new.ensures _ _ _ _ _ _ c.in-Some.ensures.left c.in-Some.ensures.line) (c.goes.ensures _ _ _)

@@ -3,4 +3,4 @@ use Rattle.line.proofs.Words.{has_key}
 use Rattle.line.proofs.has.Goals as goal
 
 pub returns : goal.returns
-returns c = has_key c.args.w c.args.b
+returns c = rw (c.from.ensures, c.from-2.ensures) (has_key c.args.w c.args.b)

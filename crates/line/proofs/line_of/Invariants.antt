@@ -1,11 +1,7 @@
 -- `line_of` meets its contract. The invariant: none of the first i lines has the block; past the row every line is free.
 use mathlib.Core.Path.{◌≡◌}
-use Prim.Native.Nat.{◌≤◌, ◌-◌}
 use Rattle.line.specs.Find.{line_of}
 use Rattle.line.proofs.line_of.Given as goal
 
 abbrev pub invariant-loop-i : goal.invariant-loop-i
-invariant-loop-i l = (l.i ≤ l.end) × (line_of l.lines l.i l.b ≡ l.i)
-
-abbrev pub decreases-loop-i : goal.decreases-loop-i
-decreases-loop-i l = l.end - l.i
+invariant-loop-i l = line_of l.lines l.i l.b ≡ l.i

@@ -1,17 +1,25 @@
 -- `word` meets its contract: numbers too large give a free line, and others the sum of the parts.
-use mathlib.Core.Path.{sym}
+use mathlib.Core.Path.{◌≡◌, refl, sym, ◌∙◌}
+use mathlib.Core.Bool.{Bool, true, false}
+use mir.Val.{bool_byte}
 use native.Mathlib.Omega.{arith}
-use Rattle.line.proofs.Words.{word-changed, word-clean, word-past-block, word-past-holder}
+use Rattle.laws.specs.Choice.{pick}
+use Rattle.line.proofs.Words.{word-is, word-past-block, word-past-holder}
 use Rattle.line.proofs.word.Goals as goal
+use Rattle.line.proofs.word.Goals.{else-b-lt-BLOCKS-via-then-b-lt-BLOCKS+else-h-lt-MARKS, else-b-lt-BLOCKS-via-else-b-lt-BLOCKS}
 
-pub returns-then-b-ge-BLOCKS : goal.returns-then-b-ge-BLOCKS
-returns-then-b-ge-BLOCKS c = sym (word-past-block c.args.b c.args.c c.args.h (omega arith))
+mark : (c : Bool) → pick c 1 0 ≡ bool_byte c
+mark true = refl
+mark false = refl
 
-pub returns-then-h-ge-MARKS : goal.returns-then-h-ge-MARKS
-returns-then-h-ge-MARKS c = sym (word-past-holder c.args.b c.args.c c.args.h (omega arith))
+pub returns-then-h-lt-MARKS : goal.returns-then-h-lt-MARKS
+returns-then-h-lt-MARKS c =
+    let a = c.args in
+    rw (c.from.ensures) (sym (word-is a.b a.c a.h (omega arith) (omega arith) ∙ rw (mark a.c) refl))
 
-pub returns-then-c : goal.returns-then-c
-returns-then-c c = sym (word-changed c.args.b c.args.c c.args.h (omega arith) (omega arith) c.if-c.true)
-
-pub returns-else-c : goal.returns-else-c
-returns-else-c c = sym (word-clean c.args.b c.args.c c.args.h (omega arith) (omega arith) c.if-c.false)
+pub returns-else-b-lt-BLOCKS : goal.returns-else-b-lt-BLOCKS
+returns-else-b-lt-BLOCKS c =
+    elim c.else-b-lt-BLOCKS.branch [
+      | else-b-lt-BLOCKS-via-then-b-lt-BLOCKS+else-h-lt-MARKS w ↦ sym (word-past-holder _ _ _ (omega arith))
+      | else-b-lt-BLOCKS-via-else-b-lt-BLOCKS w ↦ sym (word-past-block _ _ _ (omega arith))
+    ]

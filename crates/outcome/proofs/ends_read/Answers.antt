@@ -1,9 +1,5 @@
 -- `ends_read` meets its contract: the ending carries one turn more.
-use Rattle.tracker.specs.Answer.{read}
-use Rattle.outcome.proofs.Rule.{by-rule, ends-turns}
 use Rattle.outcome.proofs.ends_read.Goals as goal
 
 pub returns : goal.returns
-returns c =
-    let a = c.args in
-    λ ls bs m. by-rule (ends-turns (read a.v) _ a.t a.more _ c.one_more-turns.ensures) (c.ends.ensures ls bs m)
+returns c = rw c.one_more.ensures at c.ends.ensures

@@ -1,13 +1,8 @@
 -- `let_go_to` meets its contract. The invariant: levels 1 to e are let go.
 use mathlib.Core.Path.{◌≡◌}
-use Prim.Native.Nat.{◌≤◌, ◌-◌}
-use lib.ListN.{length}
 use Rattle.rules.specs.Step.{let_go}
 use Rattle.own.specs.Own.{line_on}
 use Rattle.own.proofs.let_go_to.Given as goal
 
 abbrev pub invariant-loop-e : goal.invariant-loop-e
-invariant-loop-e l = (l.e ≤ l.top) × (l.lines ≡ let_go l.phase (line_on l.own) l.e l.initial.lines) × (length l.lines ≡ length l.initial.lines)
-
-abbrev pub decreases-loop-e : goal.decreases-loop-e
-decreases-loop-e l = l.top - l.e
+invariant-loop-e l = l.lines ≡ let_go l.phase (line_on l.own) l.e l.initial.lines

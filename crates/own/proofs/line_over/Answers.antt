@@ -9,16 +9,16 @@ use Rattle.own.proofs.line_over.Goals as goal
 pub returns-then-not-in_limits_of : goal.returns-then-not-in_limits_of
 returns-then-not-in_limits_of c =
     let a = c.args in
-    sym (line_over-none a.shape a.g _ a.e (limits_of_lem a.shape c.top.ensures c.in_limits_of.ensures c.if-not-in_limits_of.true))
+    sym (line_over-none a.shape a.g _ a.e (limits_of_lem a.shape c.top.ensures (rw c.from.ensures at c.in_limits_of.ensures) c.if-not-in_limits_of.true))
 
 pub overflow_cast-block_over : goal.overflow_cast-block_over
 overflow_cast-block_over c =
     let a = c.args in
     let g-lt : a.g < 4294967296 = omega arith in
     let e-lt : a.e < 256 = omega arith in
-    omega (arith, c.block_over.ensures, block_over-few _ a.e a.shape.n a.g (limits_of_lem a.shape c.top.ensures c.in_limits_of.ensures c.if-not-in_limits_of.false) e-lt g-lt)
+    omega (arith, c.block_over.ensures, block_over-few _ a.e a.shape.n a.g (limits_of_lem a.shape c.top.ensures (rw c.from.ensures at c.in_limits_of.ensures) c.if-not-in_limits_of.false) e-lt g-lt)
 
 pub returns : goal.returns
 returns c =
     let a = c.args in
-    line_over-in a.shape a.g _ a.e (limits_of_lem a.shape c.top.ensures c.in_limits_of.ensures c.if-not-in_limits_of.false) c.block_over.ensures c.line_of.ensures
+    line_over-in a.shape a.g _ a.e (limits_of_lem a.shape c.top.ensures (rw c.from.ensures at c.in_limits_of.ensures) c.if-not-in_limits_of.false) c.block_over.ensures c.line_of.ensures

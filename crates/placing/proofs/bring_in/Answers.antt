@@ -1,13 +1,13 @@
--- `bring_in` meets its contract: the line that has the block, else what `fetch` gives.
+-- `bring_in` meets its contract: a line has the block, or it is fetched.
 use native.Mathlib.Omega.{arith}
 use Rattle.placing.proofs.Ways.{bring_in-found, bring_in-fetched}
 use Rattle.placing.proofs.bring_in.Goals as goal
 
-pub returns-then-i-l : goal.returns-then-i-l
-returns-then-i-l c =
+pub returns-then-i-shape-clause-left : goal.returns-then-i-shape-clause-left
+returns-then-i-shape-clause-left c =
     bring_in-found _ _ _ _ _ _ c.line_of-i.ensures (omega arith) c.none.ensures
 
-pub returns : goal.returns
-returns c =
+pub returns-clause-left : goal.returns-clause-left
+returns-clause-left c =
     let a = c.args in
-    rw (bring_in-fetched a.shape a.lines.now a.bytes.now a.memory.now a.b (omega (arith, c.line_of-i.ensures))) c.fetch.ensures
+    rw (bring_in-fetched a.shape a.lines.now a.bytes.now a.memory.now a.b (omega (arith, c.line_of-i.ensures))) c.fetch.ensures.left

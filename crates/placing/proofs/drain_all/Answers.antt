@@ -9,7 +9,7 @@ loop-i-init c = draining-none _ _ c.none-copies.ensures
 
 pub loop-i-preserved : goal.loop-i-preserved
 loop-i-preserved c =
-    draining-more _ c.loop-i.invariant (omega arith) c.cleaned.ensures c.write_back-back.ensures.0 c.write_back-back.ensures.1 c.plus-copies.ensures (search rules)
+    draining-more _ c.loop-i.invariant (omega arith) c.cleaned.ensures c.write_back.ensures.0 c.write_back.ensures.1 c.plus-copies.ensures (search rules)
 
 pub returns : goal.returns
 returns c = draining-all _ _ _ _ _ _ c.loop-i.invariant (omega arith)

@@ -3,12 +3,12 @@ use native.Mathlib.Omega.{arith}
 use Rattle.placing.proofs.Ways.{filled-past, filled_in}
 use Rattle.placing.proofs.fill.Goals as goal
 
-pub returns-then-bytes-i : goal.returns-then-bytes-i
-returns-then-bytes-i c =
+pub returns-else-i-bytes : goal.returns-else-i-bytes
+returns-else-i-bytes c =
     let a = c.args in
     λ m. filled-past a.i a.b a.changed a.lines.now a.bytes.now a.block.now m c.word.ensures (omega arith)
 
-pub returns : goal.returns
-returns c =
+pub returns-then-i-bytes : goal.returns-then-i-bytes
+returns-then-i-bytes c =
     let a = c.args in
     λ m. filled_in a.i a.b a.changed a.lines.now a.bytes.now a.block.now m c.word.ensures c.write_block.ensures

@@ -22,10 +22,6 @@ pub returns-in-Probe : goal.returns-in-Probe
 returns-in-Probe c =
     by-rule (at-probe _ _ _ _ c.requires.2 (rows_fit_lem _ _ _ (omega arith) (omega arith)) c.in-Probe.is) (c.probe.ensures _)
 
-pub returns-in-Top : goal.returns-in-Top
-returns-in-Top c =
-    by-rule (at-phase _ _ _ _ c.in-Top.is) c.top.ensures
-
 pub returns-in-Under : goal.returns-in-Under
 returns-in-Under c =
     by-rule (at_under _ _ _ _ c.requires.2 c.requires.0 (rows_fit_lem _ _ _ (omega arith) (omega arith)) c.in-Under.is) c.leaf.ensures

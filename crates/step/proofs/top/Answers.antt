@@ -17,8 +17,8 @@ returns-then-held c =
     by-rule (top-waits a.shape a.x c.at-i.result a.t a.lines.now a.bytes.now a.memory.now c.find-own.result o (rw c.top.ensures at c.at-i.ensures) (omega arith)
     (sym c.held.ensures ∙ c.if-held.true)) (c.waits.ensures _ _ _)
 
-pub returns-then-i-l : goal.returns-then-i-l
-returns-then-i-l c =
+pub returns-then-i-shape : goal.returns-then-i-shape
+returns-then-i-shape c =
     let a = c.args in
     let o = owns-found a.shape a.t.group a.lines.now c.find-own.ensures c.requires.0 in
     by-rule (top-lined a.shape a.x c.at-i.result a.t a.lines.now a.bytes.now a.memory.now c.find-own.result o (rw c.top.ensures at c.at-i.ensures) (omega arith)
@@ -33,20 +33,16 @@ overflow_cast-b c =
     let there = block_on-lt n top (suc top) (index top g) (omega arith) (index-lt top n g c.requires.1) in
     omega (arith, rw c.top-2.ensures at c.block_over-b.ensures, there, blocks_of-most top n c.requires.0)
 
-pub returns-then-l-at : goal.returns-then-l-at
-returns-then-l-at c =
+pub returns-in_default : goal.returns-in_default
+returns-in_default c =
     let a = c.args in
     let o = owns-found a.shape a.t.group a.lines.now c.find-own.ensures c.requires.0 in
     by-rule (top-none a.shape a.x c.at-i.result a.t a.lines.now a.bytes.now a.memory.now c.find-own.result o (rw c.top.ensures at c.at-i.ensures) (omega arith)
-    _ (rw c.top-2.ensures at c.block_over-b.ensures) _ _ _ _ _ _ c.fetch-spot.ensures (omega arith)) (c.refuses.ensures _ _ _)
-
-pub descend-requires-2 : goal.descend-requires-2
-descend-requires-2 c =
-    (c.requires.2, omega (arith, c.if-l-at.false, c.lines-2-1.given, c.requires.3))
+    _ (rw c.top-2.ensures at c.block_over-b.ensures) _ _ _ _ _ _ c.in_default.ensures.left (omega arith)) (c.refuses.ensures _ _ _)
 
 pub returns : goal.returns
 returns c =
     let a = c.args in
     let o = owns-found a.shape a.t.group a.lines.now c.find-own.ensures c.requires.0 in
     by-rule (top-fetched a.shape a.x c.at-i.result a.t a.lines.now a.bytes.now a.memory.now c.find-own.result o (rw c.top.ensures at c.at-i.ensures) (omega arith)
-    _ (rw c.top-2.ensures at c.block_over-b.ensures) _ _ _ _ _ _ c.fetch-spot.ensures (omega (arith, c.if-l-at.false)) c.below_top-below.ensures) (c.descend-2.ensures _)
+    _ (rw c.top-2.ensures at c.block_over-b.ensures) _ _ _ _ _ _ c.in-Some.ensures.left c.in-Some.ensures.line c.below_top-below.ensures) (c.descend-2.ensures _)
