@@ -1,3 +1,3 @@
 pub mod Tests
-pub mod Refusals
 pub mod One
+pub mod Chains
