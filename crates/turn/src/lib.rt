@@ -2,14 +2,15 @@
 // No public function has a `requires`: every number, tracker and lent row can be anything.
 #![tactic(auto)]
 
-ghost use Rattle.std.specs.Prelude.{◌≡◌, List, ℕ, ltb, length};
+ghost use Rattle.std.specs.Prelude.{◌≡◌, ltb, length};
 ghost use Rattle.laws.specs.Choice.{pick};
 ghost use Rattle.geometry.specs.TagMemory.{most_lines, most_trackers};
 ghost use Rattle.placing.specs.Lines.{rows};
-ghost use Rattle.outcome.specs.Steps.{turned};
-ghost use Rattle.turn.specs.Turn.{issue_turn, step_turn, drain_turn, named, asked_turn};
+ghost use Rattle.outcome.specs.Steps.{OnAnyRows, turned};
+ghost use Rattle.turn.specs.Turn.{accepts, issue_turn, step_turn, drain_turn, named, asked_turn};
 
 use geometry::{Geometry, Shape};
+use laws::Refusal;
 use outcome::Turned;
 use tracker::{Access, Answer, Tracker, Transfers};
 
@@ -22,72 +23,74 @@ pub enum Asked {
     Drain,
 }
 
-// Issue to tracker x: 5, 6, 7, 13.
-fn issue(
-    shape: Shape,
-    x: u64,
-    access: Access,
-    trackers: [Tracker; Geometry::MOST_TRACKERS],
-    u: Tracker,
-) -> Turned
-    ensures { (ls bs m : List ℕ) → turned result ls bs m ≡ issue_turn shape x access trackers u (rows ls bs m) }
+// A call that is accepted.
+fn accepts(shape: Shape, tracker: Tracker, transfers: Transfers) -> Turned
+    ensures { OnAnyRows (λ q. accepts shape tracker transfers q) result }
 {
-    let c = whole::issue_refusal(shape, x, access, trackers);
-    if 0 < c {
-        return outcome::refuses(c, shape, u);
-    }
     Turned {
         shape,
-        tracker: Tracker::begin(access),
-        answer: Answer::Accepted,
-        transfers: Transfers::none(),
-    }
-}
-
-// Step of tracker x, which is u: 5, 8.
-fn one_step(
-    shape: Shape,
-    x: u64,
-    trackers: [Tracker; Geometry::MOST_TRACKERS],
-    u: Tracker,
-    lines: &mut [u32],
-    bytes: &mut [u8],
-    memory: &mut [u8],
-) -> Turned
-    ensures { turned result lines.new bytes.new memory.new ≡ step_turn shape x trackers u (rows lines.old bytes.old memory.old) }
-{
-    let c = whole::step_refusal(shape, x, trackers);
-    if 0 < c {
-        return outcome::refuses(c, shape, u);
-    }
-    step::turn(shape, x as u32, u, lines, bytes, memory)
-}
-
-// Drain, with the sums of its copies: 7.
-fn drain(
-    shape: Shape,
-    trackers: [Tracker; Geometry::MOST_TRACKERS],
-    u: Tracker,
-    lines: &mut [u32],
-    bytes: &[u8],
-    memory: &mut [u8],
-) -> Turned
-    ensures { turned result lines.new bytes.now memory.new ≡ drain_turn shape trackers u (rows lines.old bytes.now memory.old) }
-{
-    let c = whole::drain_refusal(shape, trackers);
-    if 0 < c {
-        return outcome::refuses(c, shape, u);
-    }
-    let transfers = placing::drain(shape, lines, bytes, memory);
-    Turned {
-        shape,
-        tracker: u,
+        tracker,
         answer: Answer::Accepted,
         transfers,
     }
 }
 
+// Issue to tracker x: 5, 6, 7, 13.
+#[tactic(auto, unfolding(crate::specs::Turn::issue_turn, laws::specs::Refusal::unless))]
+fn issue(
+    shape: Shape,
+    x: u64,
+    access: Access,
+    trackers: &[Tracker; Geometry::MOST_TRACKERS],
+    u: Tracker,
+) -> Turned
+    ensures { OnAnyRows (λ q. issue_turn shape x access trackers.now u q) result }
+{
+    match whole::can_issue(shape, x, access, trackers) {
+        Ok(()) => accepts(shape, Tracker::begin(access), Transfers::none()),
+        Err(r) => outcome::refuses(u8::from(r), shape, u),
+    }
+}
+
+// Step of tracker x, which is u: 5, 8.
+#[tactic(auto, unfolding(crate::specs::Turn::step_turn, laws::specs::Refusal::unless))]
+fn one_step(
+    shape: Shape,
+    x: u64,
+    trackers: &[Tracker; Geometry::MOST_TRACKERS],
+    u: Tracker,
+    lines: &mut [u32],
+    bytes: &mut [u8],
+    memory: &mut [u8],
+) -> Turned
+    ensures { turned result lines.new bytes.new memory.new ≡ step_turn shape x trackers.now u (rows lines.old bytes.old memory.old) }
+{
+    match whole::can_step(shape, x, trackers) {
+        Ok(()) => step::turn(shape, x as u32, u, lines, bytes, memory),
+        Err(r) => outcome::refuses(u8::from(r), shape, u),
+    }
+}
+
+// Drain, with the sums of its copies: 7.
+#[tactic(auto, unfolding(crate::specs::Turn::drain_turn, laws::specs::Refusal::unless))]
+fn drain(
+    shape: Shape,
+    trackers: &[Tracker; Geometry::MOST_TRACKERS],
+    u: Tracker,
+    lines: &mut [u32],
+    bytes: &[u8],
+    memory: &mut [u8],
+) -> Turned
+    ensures { turned result lines.new bytes.now memory.new ≡ drain_turn shape trackers.now u (rows lines.old bytes.now memory.old) }
+{
+    match whole::can_drain(shape, trackers) {
+        Ok(()) => accepts(shape, u, placing::drain(shape, lines, bytes, memory)),
+        Err(r) => outcome::refuses(u8::from(r), shape, u),
+    }
+}
+
 // What is asked for, on the tracker u that it names.
+#[tactic(auto, unfolding(crate::specs::Turn::asked_turn))]
 pub fn take(
     shape: Shape,
     a: Asked,
@@ -100,10 +103,10 @@ pub fn take(
     ensures { turned result lines.new bytes.new memory.new ≡ asked_turn shape a trackers u (rows lines.old bytes.old memory.old) }
 {
     match a {
-        Asked::Other => outcome::refuses(12, shape, u),
-        Asked::Issue(x, access) => issue(shape, x, access, trackers, u),
-        Asked::Step(x) => one_step(shape, x, trackers, u, lines, bytes, memory),
-        Asked::Drain => drain(shape, trackers, u, lines, bytes, memory),
+        Asked::Other => outcome::refuses(Refusal::OtherForm as u8, shape, u),
+        Asked::Issue(x, access) => issue(shape, x, access, &trackers, u),
+        Asked::Step(x) => one_step(shape, x, &trackers, u, lines, bytes, memory),
+        Asked::Drain => drain(shape, &trackers, u, lines, bytes, memory),
     }
 }
 
@@ -111,18 +114,17 @@ pub fn take(
 fn below(t: u32, x: u64) -> usize
     ensures { result ≡ pick (ltb x t) x 0 }
 {
-    if x < t as u64 { x as usize } else { 0 }
+    if x < u64::from(t) { x as usize } else { 0 }
 }
 
 // The tracker, of t, that is named; 0 where none is.
+#[tactic(auto, unfolding(crate::specs::Turn::named))]
 pub fn named(t: u32, a: Asked) -> usize
     ensures { result ≡ named t a }
 {
     match a {
-        Asked::Other => 0,
-        Asked::Issue(x, access) => below(t, x),
-        Asked::Step(x) => below(t, x),
-        Asked::Drain => 0,
+        Asked::Issue(x, _) | Asked::Step(x) => below(t, x),
+        Asked::Other | Asked::Drain => 0,
     }
 }
 

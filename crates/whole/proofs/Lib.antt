@@ -1,3 +1,4 @@
+pub mod Numbers
 pub mod Tests
-pub mod Refusals
+pub mod Chains
 pub mod One

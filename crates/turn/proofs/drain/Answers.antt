@@ -1,16 +1,19 @@
 -- `drain` meets its contract: refused, or the rows are drained.
-use mathlib.Core.Path.{ap}
-use native.Mathlib.Omega.{arith}
+use mathlib.Core.Path.{ap, ◌∙◌}
 use Rattle.placing.specs.Lines.{Drained}
-use Rattle.turn.specs.Turn.{accepts}
 use Rattle.outcome.proofs.Rule.{by-rule}
-use Rattle.turn.proofs.Ways.{drain-no, drain-ok}
+use Rattle.whole.proofs.Numbers.{unless-free, unless-refused}
+use Rattle.turn.specs.Turn.{accepts, drain_turn}
 use Rattle.turn.proofs.drain.Goals as goal
 
-pub returns-then-c-gt0 : goal.returns-then-c-gt0
-returns-then-c-gt0 c = by-rule (drain-no _ _ _ _ _ c.drain_refusal-c.ensures (omega arith)) (c.refuses.ensures _ _ _)
-
-pub returns : goal.returns
-returns c =
+pub returns-in-Ok : goal.returns-in-Ok
+unfolding drain_turn
+returns-in-Ok c =
     let a = c.args in
-    by-rule (drain-ok _ _ _ _ _ c.drain_refusal-c.ensures (omega arith)) (ap (λ (d : Drained). accepts a.shape a.u d.copies d.rows) c.drain-transfers.ensures)
+    by-rule (unless-free _ _ c.in-Ok.ensures) (c.accepts.ensures _ _ _ ∙ ap (λ (d : Drained). accepts a.shape a.u d.copies d.rows) c.drain.ensures)
+
+pub returns-in-Err : goal.returns-in-Err
+unfolding drain_turn
+returns-in-Err c =
+    let a = c.args in
+    by-rule (unless-refused _ _ c.in-Err.r c.in-Err.ensures) (cc (c.refuses.ensures a.lines.now a.bytes.now a.memory.now))

@@ -1,13 +1,13 @@
 -- `issue` meets its contract: refused, or the tracker begins.
-use mathlib.Core.Path.{refl}
-use native.Mathlib.Omega.{arith}
 use Rattle.outcome.proofs.Rule.{by-rule}
-use Rattle.turn.proofs.Ways.{issue-no, issue-ok}
+use Rattle.whole.proofs.Numbers.{unless-free, unless-refused}
+use Rattle.turn.specs.Turn.{issue_turn}
 use Rattle.turn.proofs.issue.Goals as goal
 
-pub returns-then-c-gt0 : goal.returns-then-c-gt0
-returns-then-c-gt0 c = λ ls bs m. by-rule (issue-no _ _ _ _ _ _ _ c.issue_refusal-c.ensures (omega arith)) (c.refuses.ensures _ _ _)
+pub returns-in-Ok : goal.returns-in-Ok
+unfolding issue_turn
+returns-in-Ok c = λ ls bs m. by-rule (unless-free _ _ c.in-Ok.ensures) (cc (c.accepts.ensures ls bs m))
 
-pub returns : goal.returns
-returns c = λ ls bs m. by-rule (issue-ok _ _ _ _ _ _ _ c.issue_refusal-c.ensures (omega arith))
-    (rw (c.begin.ensures, c.none.ensures) refl)
+pub returns-in-Err : goal.returns-in-Err
+unfolding issue_turn
+returns-in-Err c = λ ls bs m. by-rule (unless-refused _ _ c.in-Err.r c.in-Err.ensures) (cc (c.refuses.ensures ls bs m))

@@ -1,23 +1,15 @@
--- `all_idle` meets its contract. The invariant: each of the first x trackers is idle.
+-- `all_idle` meets its contract: the chain is a scan.
+use mathlib.Core.Path.{refl, ◌∙◌}
 use borrow.Author.Rules.{rules}
-use mathlib.Core.Path.{refl, sym, ◌∙◌}
-use native.Mathlib.Omega.{arith}
-use Rattle.laws.proofs.Scan.{all-zero, all_more, all-fails}
-use Rattle.tracker.specs.Tracker.{is_idle}
-use Rattle.whole.proofs.Tests.{all_past}
+use borrow.Author.Tests.{tests}
+use Rattle.std.proofs.lemmas.Iterator.{YieldsList-from_slice, YieldsList-from_take}
+use Rattle.std.proofs.lemmas.Iterator.Search.{all_from_yields_List}
+use Rattle.tracker.specs.Tracker.{idle, is_idle}
+use Rattle.whole.proofs.Chains.{all-taken}
 use Rattle.whole.proofs.all_idle.Goals as goal
-
-pub loop-x-init : goal.loop-x-init
-loop-x-init c = (omega arith, all-zero _)
-
-pub loop-x-preserved : goal.loop-x-preserved
-loop-x-preserved c =
-    (omega arith, all_more _ c.loop-x.x c.loop-x.invariant.1 (sym c.is_idle.ensures ∙ c.if-is_idle.true))
-
-pub returns-else-is_idle : goal.returns-else-is_idle
-returns-else-is_idle c =
-    sym (all-fails _ c.args.t c.loop-x.x (omega arith) (sym c.is_idle.ensures ∙ c.if-is_idle.false))
 
 pub returns : goal.returns
 returns c =
-    sym (all_past c.args.t c.args.trackers is_idle refl c.loop-x.x (search rules) (omega arith) c.loop-x.invariant.1)
+    let a = c.args in
+    all_from_yields_List is_idle _ _ c.all.result c.all.ensures.ran (YieldsList-from_take a.t (YieldsList-from_slice a.trackers.now (cc)) (cc)) (λ x b q k. search (rules, tests))
+    ∙ all-taken is_idle idle refl a.t a.trackers.now

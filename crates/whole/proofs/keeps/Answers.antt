@@ -1,31 +1,20 @@
--- `keeps` meets its contract. The invariant: of the first e levels none is it.
-use mathlib.Core.Path.{◌≡◌, sym}
-use mathlib.Core.Bool.{true, false}
-use native.Mathlib.Numerals.{add-one}
+-- `keeps` meets its contract: the chain is a scan.
+use mathlib.Core.Path.{refl, ◌∙◌}
+use borrow.Author.Rules.{rules}
+use borrow.Author.Tests.{tests}
 use native.Mathlib.Omega.{arith}
-use Rattle.laws.proofs.Scan.{all-zero, all_more}
-use Rattle.whole.proofs.Tests.{at_level, keeps-found, keeps-none, no_of}
+use Rattle.std.proofs.lemmas.Iterator.{YieldsList-from_range}
+use native.Mathlib.Numerals.{add-one}
+use Rattle.std.proofs.lemmas.Iterator.Search.{any_from_yields_List}
+use Rattle.laws.specs.Choice.{both}
+use Rattle.rules.specs.Whole.{keeps}
+use Rattle.whole.proofs.Tests.{at_level}
+use Rattle.whole.proofs.Chains.{some-range}
 use Rattle.whole.proofs.keeps.Goals as goal
 
-pub loop-e-init : goal.loop-e-init
-loop-e-init c = (omega arith, all-zero _)
-
-pub returns-then-both : goal.returns-then-both
-returns-then-both c =
-    let a = c.args in
-    let found : at_level a.n a.t a.b c.loop-e.e ≡ true =
-    rw (c.both.ensures, c.block_over.ensures, c.keeps_at.ensures, add-one) at c.if-both.true in
-    sym (keeps-found a.top a.n a.t a.b c.loop-e.e (omega arith) found)
-
-pub loop-e-preserved : goal.loop-e-preserved
-loop-e-preserved c =
-    let a = c.args in
-    let other : at_level a.n a.t a.b c.loop-e.e ≡ false =
-    rw (c.both.ensures, c.block_over.ensures, c.keeps_at.ensures, add-one) at c.if-both.false in
-    (omega arith, all_more _ c.loop-e.e c.loop-e.invariant.1 (no_of other))
-
 pub returns : goal.returns
+unfolding keeps both
 returns c =
     let a = c.args in
-    let e : c.loop-e.e ≡ a.top = omega arith in
-    sym (keeps-none a.top a.n a.t a.b (rw e at c.loop-e.invariant.1))
+    let p = at_level a.n a.t a.b in
+    any_from_yields_List p _ _ c.any.result c.any.ensures.ran (YieldsList-from_range 0 a.top a.top refl (omega arith)) (λ x b q k. search (rules, tests, add-one)) ∙ some-range p a.top

@@ -1,24 +1,21 @@
--- `meets_none` meets its contract. The invariant: the access meets none of the first x trackers.
+-- `meets_none` meets its contract: the chain is a scan.
+use mathlib.Core.Path.{◌∙◌}
+use mathlib.Core.Bool.{not}
 use borrow.Author.Rules.{rules}
-use mathlib.Core.Path.{sym, ◌∙◌}
-use native.Mathlib.Omega.{arith}
-use Rattle.whole.proofs.Refusals.{none-start, none_more, none-fails, none-past}
+use borrow.Author.Tests.{tests}
+use Rattle.std.proofs.lemmas.Iterator.{YieldsList-from_slice, YieldsList-from_take}
+use Rattle.std.proofs.lemmas.Iterator.Search.{all_from_yields_List}
+use Rattle.tracker.specs.declared.Tracker.{Tracker}
+use Rattle.tracker.specs.Tracker.{idle}
+use Rattle.rules.specs.Calls.{meets, meets_none}
+use Rattle.whole.proofs.Chains.{all-taken}
+use Rattle.whole.proofs.Tests.{idle_met}
 use Rattle.whole.proofs.meets_none.Goals as goal
 
-pub loop-x-init : goal.loop-x-init
-loop-x-init c = (omega arith, none-start _ _)
-
-pub returns-then-meets : goal.returns-then-meets
-returns-then-meets c =
-    let a = c.args in
-    sym (none-fails a.access a.trackers a.t c.loop-x.x (omega arith) (sym c.meets.ensures ∙ c.if-meets.true))
-
-pub loop-x-preserved : goal.loop-x-preserved
-loop-x-preserved c =
-    let a = c.args in
-    (omega arith, none_more a.access a.trackers c.loop-x.x c.loop-x.invariant.1 (sym c.meets.ensures ∙ c.if-meets.false))
-
 pub returns : goal.returns
+unfolding meets_none
 returns c =
     let a = c.args in
-    sym (none-past a.access a.trackers a.t c.loop-x.x (search rules) (omega arith) c.loop-x.invariant.1)
+    let p = λ (u : Tracker). not (meets a.access u) in
+    all_from_yields_List p _ _ c.all.result c.all.ensures.ran (YieldsList-from_take a.t (YieldsList-from_slice a.trackers.now (cc)) (cc)) (λ x b q k. search (rules, tests))
+    ∙ all-taken p idle (idle_met a.access) a.t a.trackers.now
