@@ -11,3 +11,4 @@ pub mod Refusals
 pub mod Parts
 pub mod Stores
 pub mod Count
+pub mod Told
