@@ -2,13 +2,16 @@
 // No public function has a `requires`.
 #![tactic(auto)]
 
-ghost use Rattle.std.specs.Prelude.{◌≡◌, true, ◌*◌, ◌/◌, ◌%◌, ◌-◌, ◌≤◌, ◌<◌, length, replicate, eqb};
-ghost use Rattle.laws.specs.Choice.{both, either};
+ghost use Rattle.std.specs.Prelude.{◌≡◌, ◌*◌, ◌/◌, ◌%◌, ◌-◌, ◌≤◌, ◌<◌, length, replicate};
+ghost use Rattle.std.specs.Bool.{then_some};
+ghost use Rattle.laws.specs.Choice.{both};
 ghost use Rattle.laws.specs.Bytes.{put_w};
+ghost use Rattle.laws.specs.Refusal.{refused_with};
 ghost use Rattle.laws.specs.Scan.{all};
 ghost use Rattle.form.specs.Test.{count_of, unused_zero, head_sound, count_right, block_sound, version_in, leaves_in, recorded_in, record_count, record_in, lowest, good_above, good_record, form_in, image_test};
 
 use geometry::Geometry;
+use laws::Refusal;
 
 // An image block's bytes, where its records begin, where the first one's 64 bytes begin, where its check stands; a record's bytes, and the records of a full block.
 pub const BLOCK: usize = 512;
@@ -23,15 +26,6 @@ pub const RECORD: usize = 68;
 
 pub const FULL: usize = 7;
 
-fn and(a: bool, b: bool) -> bool
-    ensures { result ≡ both a b }
-{
-    if a {
-        return b;
-    }
-    false
-}
-
 // The bytes of a block from `at` up to its check are zero.
 fn unused_zero(block: &[u8], at: usize) -> bool
     requires { (length block.now ≡ 512) × (at ≤ 508) }
@@ -40,43 +34,23 @@ fn unused_zero(block: &[u8], at: usize) -> bool
     block::all_zero(&block[at..CHECK])
 }
 
-// There is such a version.
-fn known(version: u16) -> bool
-    ensures { result ≡ either (eqb version 1) (eqb version 2) }
-{
-    if version == 1 {
-        return true;
-    }
-    version == 2
-}
-
 // The head is sound by its version's form, its m apart.
 pub fn head_sound(block: &[u8]) -> bool
     ensures { result ≡ head_sound (form_in block.now) block.now }
 {
-    if block.len() != BLOCK {
-        return false;
-    }
-    let number = block::four_at(block, 0);
-    let kind = sums::two_at(block, 4);
-    let version = sums::two_at(block, 6);
-    let n = block::four_at(block, 8);
-    let zeros = unused_zero(block, 16);
-    let limits = Geometry::in_limits(n as u64);
-    and(
-        number == 0,
-        and(kind == 1, and(known(version), and(limits, zeros))),
-    )
+    block.len() == BLOCK
+        && block::four_at(block, 0) == 0
+        && sums::two_at(block, 4) == 1
+        && matches!(sums::two_at(block, 6), 1 | 2)
+        && Geometry::in_limits(u64::from(block::four_at(block, 8)))
+        && unused_zero(block, 16)
 }
 
 // A block's count of records is right: 7, in the last block 1 to 7.
 pub fn count_right(last: bool, c: u16) -> bool
     ensures { result ≡ count_right last c }
 {
-    if last {
-        return and(1 <= c, c <= 7);
-    }
-    c == 7
+    if last { matches!(c, 1..=7) } else { c == 7 }
 }
 
 // Record block j is sound.
@@ -87,13 +61,10 @@ pub fn block_sound(last: bool, j: u64, block: &[u8]) -> bool
         return false;
     }
     let count = sums::two_at(block, 6);
-    if !count_right(last, count) {
-        return false;
-    }
-    let number = block::four_at(block, 0);
-    let kind = sums::two_at(block, 4);
-    let zeros = unused_zero(block, RECORDS + RECORD * (count as usize));
-    and(number as u64 == j, and(kind == 2, zeros))
+    count_right(last, count)
+        && u64::from(block::four_at(block, 0)) == j
+        && sums::two_at(block, 4) == 2
+        && unused_zero(block, RECORDS + RECORD * usize::from(count))
 }
 
 // The number of records, by the number of blocks and the last one's count.
@@ -105,67 +76,42 @@ fn record_count(image: &[u8]) -> usize
         return 0;
     }
     let at = BLOCK * (whole - 1);
-    FULL * (whole - 2) + (sums::two_at(&image[at..at + BLOCK], 6) as usize)
+    FULL * (whole - 2) + usize::from(sums::two_at(&image[at..at + BLOCK], 6))
 }
 
 // A record of that leaf and those bytes is good above the leaves below `low`.
 pub fn record_good(n: u32, low: u64, leaf: u32, content: &[u8]) -> bool
     ensures { result ≡ good_above n low (record { leaf = leaf; content = content.now }) }
 {
-    let empty = block::all_zero(content);
-    and(low <= leaf as u64, and(leaf < n, !empty))
+    low <= u64::from(leaf) && leaf < n && !block::all_zero(content)
 }
 
-// Whether the rules were kept so far, and, if so, the leaf number after that of the last record.
-#[derive(Drop)]
-struct Kept {
-    good: bool,
-    low: u64,
-}
-
-// The first `count` records of a block, after records that are all below leaf `low`.
-fn records_good(n: u32, low: u64, block: &[u8], count: usize) -> Kept
+// The first `count` records of a block, after records that are all below leaf `low`: the leaf number after that of the last; none where one is not good.
+fn records_good(n: u32, low: u64, block: &[u8], count: usize) -> Option<u64>
     requires { (length block.now ≡ 512) × (count ≤ 7) }
-    ensures { (result.good ≡ all (good_record n low (record_in block.now)) count) × (result.good ≡ true → result.low ≡ lowest low (record_in block.now) count) }
+    ensures { result ≡ then_some (all (good_record n low (record_in block.now)) count) (lowest low (record_in block.now) count) }
 {
-    let mut i: usize = 0;
     let mut next = low;
-    while i < count {
+    for i in 0..count {
         let leaf = block::four_at(block, RECORDS + RECORD * i);
         let at = CONTENT + RECORD * i;
-        let good = record_good(n, next, leaf, &block[at..at + Geometry::BLOCK_LEN]);
-        if !good {
-            return Kept {
-                good: false,
-                low: next,
-            };
+        if !record_good(n, next, leaf, &block[at..at + Geometry::BLOCK_LEN]) {
+            return None;
         }
-        next = leaf as u64 + 1;
-        i += 1;
+        next = u64::from(leaf) + 1;
     }
-    Kept {
-        good: true,
-        low: next,
-    }
+    Some(next)
 }
 
-// Record block j with its records, after the blocks before it.
-fn block_kept(n: u32, before: Kept, last: bool, j: u64, block: &[u8]) -> Kept
+// Record block j with its records, after records that are all below leaf `low`: the leaf number after that of its last; none where a rule is broken.
+fn block_kept(n: u32, low: u64, last: bool, j: u64, block: &[u8]) -> Option<u64>
     requires { length block.now ≡ 512 }
-    ensures { (result.good ≡ both before.good (both (block_sound last j block.now) (all (good_record n before.low (record_in block.now)) (count_of block.now)))) × (result.good ≡ true → result.low ≡ lowest before.low (record_in block.now) (count_of block.now)) }
+    ensures { result ≡ then_some (both (block_sound last j block.now) (all (good_record n low (record_in block.now)) (count_of block.now))) (lowest low (record_in block.now) (count_of block.now)) }
 {
-    if !before.good {
-        return before;
+    if !block_sound(last, j, block) {
+        return None;
     }
-    let sound = block_sound(last, j, block);
-    if !sound {
-        return Kept {
-            good: false,
-            low: 0,
-        };
-    }
-    let count = sums::two_at(block, 6) as usize;
-    records_good(n, before.low, block, count)
+    records_good(n, low, block, usize::from(sums::two_at(block, 6)))
 }
 
 // The version in the head of an image.
@@ -190,50 +136,40 @@ pub fn recorded_in(image: &[u8]) -> u32
 }
 
 // The test of an image of whole blocks, one block after the other: 10 at the first wrong check; after the last 11 where another rule is broken.
-fn test_blocks(image: &[u8]) -> u64
+fn test_blocks(image: &[u8]) -> Result<(), Refusal>
     requires { (0 < length image.now) × (length image.now % 512 ≡ 0) }
-    ensures { result ≡ image_test image.now }
+    ensures { refused_with result ≡ image_test image.now }
 {
-    let whole = image.len() / BLOCK;
+    let head = &image[0..BLOCK];
     let version = version_in(image);
-    let right = sums::check_right(version, &image[0..BLOCK]);
-    if !right {
-        return 10;
+    if !sums::check_right(version, head) {
+        return Err(Refusal::WrongCheck);
     }
     let n = leaves_in(image);
-    let sound = head_sound(&image[0..BLOCK]);
-    let mut kept = Kept {
-        good: sound,
-        low: 0,
-    };
-    let mut j: usize = 1;
-    while j < whole {
+    let whole = image.len() / BLOCK;
+    let mut kept = head_sound(head).then_some(0);
+    for j in 1..whole {
         let at = BLOCK * j;
-        let good = sums::check_right(version, &image[at..at + BLOCK]);
-        if !good {
-            return 10;
+        let block = &image[at..at + BLOCK];
+        if !sums::check_right(version, block) {
+            return Err(Refusal::WrongCheck);
         }
-        kept = block_kept(n, kept, j + 1 == whole, j as u64, &image[at..at + BLOCK]);
-        j += 1;
+        if let Some(low) = kept {
+            kept = block_kept(n, low, j + 1 == whole, j as u64, block);
+        }
     }
-    if !kept.good {
-        return 11;
+    if kept.is_none() || recorded_in(image) as usize != record_count(image) {
+        return Err(Refusal::OtherRule);
     }
-    if recorded_in(image) as usize != record_count(image) {
-        return 11;
-    }
-    0
+    Ok(())
 }
 
-// The image test: 0, 10 or 11.
-pub fn image_test(image: &[u8]) -> u64
-    ensures { result ≡ image_test image.now }
+// The image test: nothing is refused, or 10 or 11.
+pub fn image_test(image: &[u8]) -> Result<(), Refusal>
+    ensures { refused_with result ≡ image_test image.now }
 {
-    if image.len() == 0 {
-        return 10;
-    }
-    if image.len() % BLOCK != 0 {
-        return 10;
+    if image.is_empty() || !image.len().is_multiple_of(BLOCK) {
+        return Err(Refusal::WrongCheck);
     }
     test_blocks(image)
 }
@@ -242,11 +178,8 @@ pub fn image_test(image: &[u8]) -> u64
 pub fn clear(row: &mut [u8], at: usize, count: usize)
     ensures { row.new ≡ put_w count row.old at (replicate count 0) }
 {
-    if row.len() < count {
+    if row.len() < count || row.len() - count < at {
         return;
     }
-    if row.len() - count < at {
-        return;
-    }
-    block::clear(&mut row[at..at + count]);
+    row[at..at + count].fill(0);
 }

@@ -5,17 +5,15 @@ use Prim.Native.Nat.{ℕ, ◌+◌, ◌*◌, ◌<◌}
 use native.Mathlib.Numerals.{add-one}
 use native.Mathlib.Omega.{arith}
 use lib.Dec.{eqb}
-use lib.ListN.{length, replicate, length-replicate}
+use lib.ListN.{length, replicate}
 use borrow.Author.Tests.{eq-eqb, ne_eqb}
 use Rattle.laws.specs.Choice.{pick}
 use Rattle.laws.specs.Bytes.{part, fits, put_w}
 use Rattle.laws.specs.Refusal.{refusal}
 use Rattle.laws.proofs.Refusals.{refusal-0, refusal-first, unless-0, unless-no}
-use Rattle.laws.proofs.Put.{put_w-fits}
 use Rattle.geometry.specs.TagMemory.{memory_length, block_place, map_place, map_bit_of}
 use Rattle.block.specs.Block.{put_bit}
 use Rattle.block.proofs.Blocks.{copy-fits}
-use Rattle.laws.proofs.Writes.{splice-end}
 use Rattle.form.specs.Encode.{Record}
 use Rattle.form.specs.Test.{leaves_in, recorded_in, record_in, record_at, image_test}
 use Rattle.form.specs.Calls.{put_record, filled, records_in, memory_of, restoring_tests, restoring_refusal, restored}
@@ -27,11 +25,9 @@ pub put-record-law : (n : ℕ) (mem row : List ℕ) (i : ℕ) → length row ≡
 unfolding put_record
 put-record-law n mem row i h l = rw (sym (copy-fits mem (block_place (record_in row i).leaf) row (12 + 68 * i) (omega arith)))
 
-pub filled_none : (n : ℕ) (mem : List ℕ) (rs : List Record) → length mem ≡ memory_length n → put_w (length mem) mem 0 (replicate (length mem) 0) ≡ filled n rs 0
+pub zeros-filled : (n : ℕ) (mem : List ℕ) (rs : List Record) → length mem ≡ memory_length n → replicate (length mem) 0 ≡ filled n rs 0
 unfolding filled
-filled_none n mem rs h =
-    let z : length {A = ℕ} (replicate (length mem) 0) ≡ length mem = length-replicate (length mem) 0 in
-    put_w-fits (length mem) mem 0 (replicate (length mem) 0) (omega arith) ∙ splice-end mem 0 (replicate (length mem) 0) (omega arith) ∙ ap (λ (x : ℕ). replicate x 0) h
+zeros-filled n mem rs h = ap (λ (x : ℕ). replicate x 0) h
 
 pub filled_more : (n : ℕ) (image : List ℕ) (p : ℕ) → p < recorded_in image → put_record n (filled n (records_in image) p) (record_at image p) ≡ filled n (records_in image) (p + 1)
 unfolding filled

@@ -3,11 +3,13 @@
 #![tactic(auto)]
 
 ghost use Rattle.std.specs.Prelude.{◌≡◌, ◌+◌, ◌*◌, ◌/◌, ◌≤◌, ◌<◌, length};
+ghost use Rattle.laws.specs.Refusal.{refused_with};
 ghost use Rattle.geometry.specs.TagMemory.{memory_length};
 ghost use Rattle.form.specs.Test.{whole_blocks, record_in, record_at, recorded_in};
 ghost use Rattle.form.specs.Calls.{put_record, records_in, memory_of, restoring_refusal, restored};
 
 use geometry::Geometry;
+use laws::Refusal;
 
 // Record i of a block into a memory of n leaves: its leaf and its bit.
 fn put_record(n: u32, memory: &mut [u8], row: &[u8], i: usize)
@@ -43,27 +45,21 @@ fn put_records(n: u32, memory: &mut [u8], image: &[u8], m: usize)
     requires { (length memory.old ≡ memory_length n) × (m ≡ recorded_in image.now) × (m + 7 ≤ 7 * whole_blocks image.now) }
     ensures { memory.new ≡ memory_of n (records_in image.now) }
 {
-    let long = memory.len();
-    image::clear(memory, 0, long);
-    let mut p: usize = 0;
-    while p < m {
+    memory.fill(0);
+    for p in 0..m {
         put_record_at(n, memory, image, p);
-        p += 1;
     }
 }
 
-// Restoring: 0 or the refusal (10, 11, 2). Refused, the memory stays as it was.
-pub fn restore(image: &[u8], memory: &mut [u8]) -> u64
-    ensures { (result ≡ restoring_refusal image.now (length memory.old)) × (memory.new ≡ restored image.now memory.old) }
+// Restoring; refused with 10, 11 or 2, the memory stays as it was.
+pub fn restore(image: &[u8], memory: &mut [u8]) -> Result<(), Refusal>
+    ensures { (refused_with result ≡ restoring_refusal image.now (length memory.old)) × (memory.new ≡ restored image.now memory.old) }
 {
-    let test = image::image_test(image);
-    if test != 0 {
-        return test;
-    }
+    image::image_test(image)?;
     let n = image::leaves_in(image);
     if memory.len() as u64 != Geometry::memory_length(n) {
-        return 2;
+        return Err(Refusal::OtherLength);
     }
     put_records(n, memory, image, image::recorded_in(image) as usize);
-    0
+    Ok(())
 }

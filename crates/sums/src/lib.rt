@@ -21,38 +21,27 @@ struct Sums {
     b: u16,
 }
 
-// Two bytes as a number, low byte first.
-fn join2(low: u8, high: u8) -> u16
-    ensures { result ≡ low + 256 * high }
-{
-    low as u16 + 256 * (high as u16)
-}
-
 // The two-byte number from `at`; 0 where its bytes are not all there.
 pub fn two_at(row: &[u8], at: usize) -> u16
     ensures { result ≡ number_at 2 row.now at }
 {
-    if row.len() < 2 {
+    let Some(rest) = row.get(at..) else {
         return 0;
-    }
-    if row.len() - 2 < at {
+    };
+    let Some(two) = rest.first_chunk() else {
         return 0;
-    }
-    join2(row[at], row[at + 1])
+    };
+    u16::from_le_bytes(*two)
 }
 
 // The number v into two bytes from `at`; where they do not fit, nothing changes.
 pub fn put_two(row: &mut [u8], at: usize, v: u16)
     ensures { row.new ≡ put_w 2 row.old at (bytes 2 v) }
 {
-    if row.len() < 2 {
+    if row.len() < 2 || row.len() - 2 < at {
         return;
     }
-    if row.len() - 2 < at {
-        return;
-    }
-    row[at] = (v % 256) as u8;
-    row[at + 1] = (v / 256 % 256) as u8;
+    row[at..at + 2].copy_from_slice(&v.to_le_bytes());
 }
 
 // Word k of a block that has it.
@@ -60,7 +49,7 @@ fn word_at(block: &[u8], k: usize) -> u16
     requires { 2 * k + 1 < length block.now }
     ensures { result ≡ word block.now k }
 {
-    join2(block[2 * k], block[2 * k + 1])
+    u16::from_le_bytes([block[2 * k], block[2 * k + 1]])
 }
 
 // The two sums of version 1, modulo 65,535. The modulus is taken once, at the end: without it both stay far below 2^64.
@@ -70,11 +59,9 @@ fn old_sums(block: &[u8]) -> Sums
 {
     let mut a: u64 = 1;
     let mut b: u64 = 0;
-    let mut k: usize = 0;
-    while k < WORDS {
-        a += word_at(block, k) as u64;
+    for k in 0..WORDS {
+        a += u64::from(word_at(block, k));
         b += a;
-        k += 1;
     }
     Sums {
         a: (a % MODULUS) as u16,
@@ -82,22 +69,20 @@ fn old_sums(block: &[u8]) -> Sums
     }
 }
 
-// The two sums of every other version, modulo 65,536: both wrap. Two words a turn: so less of a turn is counting.
+// The two sums of every other version, modulo 65,536: both wrap. Two words a turn: with one, the image test takes an eighth more time.
 fn new_sums(block: &[u8]) -> Sums
     requires { 508 ≤ length block.now }
     ensures { (result.a ≡ sum_a 65536 block.now 254) × (result.b ≡ sum_b 65536 block.now 254) }
 {
     let mut a: u16 = 1;
     let mut b: u16 = 0;
-    let mut k: usize = 0;
-    while k < WORDS {
-        a = std::num::wrapping_add_u16(a, word_at(block, k));
-        b = std::num::wrapping_add_u16(b, a);
-        a = std::num::wrapping_add_u16(a, word_at(block, k + 1));
-        b = std::num::wrapping_add_u16(b, a);
-        k += 2;
+    for k in 0..WORDS / 2 {
+        a = a.wrapping_add(word_at(block, 2 * k));
+        b = b.wrapping_add(a);
+        a = a.wrapping_add(word_at(block, 2 * k + 1));
+        b = b.wrapping_add(a);
     }
-    Sums { a: a, b: b }
+    Sums { a, b }
 }
 
 // The two sums by a version's rule.
@@ -106,9 +91,10 @@ fn sums_by(version: u16, block: &[u8]) -> Sums
     ensures { (result.a ≡ sum_a (modulus_for version) block.now 254) × (result.b ≡ sum_b (modulus_for version) block.now 254) }
 {
     if version == 1 {
-        return old_sums(block);
+        old_sums(block)
+    } else {
+        new_sums(block)
     }
-    new_sums(block)
 }
 
 // The block's check is right by a version's rule.
@@ -119,10 +105,7 @@ pub fn check_right(version: u16, block: &[u8]) -> bool
         return false;
     }
     let s = sums_by(version, block);
-    if two_at(block, CHECK) != s.a {
-        return false;
-    }
-    two_at(block, CHECK + 2) == s.b
+    two_at(block, CHECK) == s.a && two_at(block, CHECK + 2) == s.b
 }
 
 // The block gets its check, by the new rule, in bytes 508 to 511; where fewer than 512 bytes are lent, nothing changes.

@@ -4,10 +4,10 @@ use Rattle.sums.proofs.Words.{plain_a-none, plain_b-none, plain_a-more, plain_b-
 use Rattle.sums.proofs.old_sums.Goals as goal
 
 pub loop-k-init : goal.loop-k-init
-loop-k-init c = (omega arith, sym (plain_a-none _), sym (plain_b-none _), omega arith, omega arith)
+loop-k-init c = (sym (plain_a-none _), sym (plain_b-none _), omega arith, omega arith)
 
 pub loop-k-preserved : goal.loop-k-preserved
-loop-k-preserved c = (omega arith, rw plain_a-more (cc), rw (plain_b-more, plain_a-more) (cc), omega arith, omega arith)
+loop-k-preserved c = (rw plain_a-more (cc), rw (plain_b-more, plain_a-more) (cc), omega arith, omega arith)
 
 pub returns : goal.returns
 returns c = let b = c.args.block.now in

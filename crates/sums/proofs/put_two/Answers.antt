@@ -1,19 +1,13 @@
--- `sums::put_two` meets its contract: two stores are a write of two bytes.
-use Rattle.std.proofs.Common.{sym, ◌∙◌, arith, length-set}
+-- `sums::put_two` meets its contract: its bytes are put in their place where they fit.
+use Rattle.std.proofs.Common.{sym, ◌∙◌, arith}
 use Rattle.laws.specs.Bytes.{bytes}
-use Rattle.laws.proofs.Put.{put_w-fits, put_w-not}
-use Rattle.laws.proofs.Value.{put2}
+use Rattle.laws.proofs.Put.{put_w-is, put_w-not}
 use Rattle.sums.proofs.put_two.Goals as goal
+use Rattle.sums.proofs.put_two.Goals.{then-row-lt2-via-then-row-lt2, then-row-lt2-via-else-row-lt2+then-row-at}
 
 pub returns-then-row-lt2 : goal.returns-then-row-lt2
-returns-then-row-lt2 c = sym (put_w-not 2 _ c.args.at _ (omega arith))
-
-pub returns-then-row-at : goal.returns-then-row-at
-returns-then-row-at c = sym (put_w-not 2 _ c.args.at _ (omega arith))
-
-pub bounds-row-at-2 : goal.bounds-row-at-2
-bounds-row-at-2 c = simp length-set (omega arith)
+returns-then-row-lt2 c = sym (put_w-not 2 _ c.args.at _ (elim c.then-row-lt2.branch [ then-row-lt2-via-then-row-lt2 w ↦ omega arith | then-row-lt2-via-else-row-lt2+then-row-at w ↦ omega arith ]))
 
 pub returns : goal.returns
-returns c = put2 c.args.row.now c.args.at c.args.v (omega arith)
-    ∙ sym (put_w-fits 2 c.args.row.now c.args.at (bytes 2 c.args.v) (omega arith))
+unfolding bytes
+returns c = put_w-is c.args.row.now c.args.at 2 (omega arith) (c.copy_from_slice.ensures.after ∙ c.to_le_bytes.ensures) c.copy_from_slice.ensures.len
