@@ -43,27 +43,27 @@ pub refusal-one : (r s : Refusal) → number r ≡ number s → r ≡ s
 refusal-one r s e = sym (named-number r) ∙ ap named e ∙ named-number s
 
 -- and none has the number 0
-pub numbered : (r : Refusal) → 0 < number r
-numbered OutsideLimits = omega arith
-numbered OtherLength = omega arith
-numbered NotTrue = omega arith
-numbered BrokenState = omega arith
-numbered NoTracker = omega arith
-numbered NoGroup = omega arith
-numbered BusyTracker = omega arith
-numbered IdleTracker = omega arith
-numbered NoRoom = omega arith
-numbered WrongCheck = omega arith
-numbered OtherRule = omega arith
-numbered OtherForm = omega arith
-numbered SharedGroup = omega arith
-numbered OtherRun = omega arith
+pub refused-some : (r : Refusal) → 0 < number r
+refused-some OutsideLimits = omega arith
+refused-some OtherLength = omega arith
+refused-some NotTrue = omega arith
+refused-some BrokenState = omega arith
+refused-some NoTracker = omega arith
+refused-some NoGroup = omega arith
+refused-some BusyTracker = omega arith
+refused-some IdleTracker = omega arith
+refused-some NoRoom = omega arith
+refused-some WrongCheck = omega arith
+refused-some OtherRule = omega arith
+refused-some OtherForm = omega arith
+refused-some SharedGroup = omega arith
+refused-some OtherRun = omega arith
 
 -- two answers that refuse the same and give the same are one
 pub answer-one : (x y : Result ℕ Refusal) → given x ≡ given y → refused_with x ≡ refused_with y → x ≡ y
 answer-one (Ok v) (Ok w) e f = ap Ok e
-answer-one (Ok v) (Err s) e f = absurd (omega (arith, numbered s))
-answer-one (Err r) (Ok w) e f = absurd (omega (arith, numbered r))
+answer-one (Ok v) (Err s) e f = absurd (omega (arith, refused-some s))
+answer-one (Err r) (Ok w) e f = absurd (omega (arith, refused-some r))
 answer-one (Err r) (Err s) e f = ap Err (refusal-one r s f)
 
 -- of writing an image: what is answered, what is refused, and what is left

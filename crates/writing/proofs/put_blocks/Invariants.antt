@@ -4,4 +4,3 @@ use Rattle.writing.proofs.put_blocks.Given as goal
 
 abbrev pub invariant-loop-j : goal.invariant-loop-j
 invariant-loop-j l = Progress l.initial.output l.memory l.n l.m l.output l.j l.k
-

@@ -1,6 +1,5 @@
 -- `writing::write_image` meets its contract, by a law for each refusal in its order.
 use mathlib.Core.Path.{◌≡◌, sym, ◌∙◌}
-use Prim.Native.Nat.{◌+◌, ◌*◌, ◌/◌}
 use native.Mathlib.Omega.{arith}
 use lib.ListN.{length}
 use Rattle.geometry.specs.TagMemory.{memory_length}
@@ -44,7 +43,7 @@ returns-then-output-long c = let a = c.args in
     let h = (sym c.in_limits.ensures ∙ c.if-not-in_limits.false) in
     let l : length a.memory.now ≡ memory_length a.n = (omega (arith, c.memory_length.ensures)) in
     let e = refusal-9 a.n a.memory.now (length a.output.now) h l (sym c.is_true.ensures ∙ c.if-not-is_true.false)
-        (omega (arith, c.length_for-long.ensures, length-image a.n a.memory.now c.count_marked-m.result (omega arith) c.count_marked-m.ensures)) in
+    (omega (arith, c.length_for-long.ensures, length-image a.n a.memory.now c.count_marked-m.result (omega arith) c.count_marked-m.ensures)) in
     let r = refused a.n a.memory.now a.output.now 8 e in
     (r.0, sym e, r.1)
 
