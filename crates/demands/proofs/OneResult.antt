@@ -1,9 +1,10 @@
 -- Each call of 01 has one result, by its own contract: the answer and what it leaves equal a definition.
 use mathlib.Core.Path.{◌≡◌, sym, ◌∙◌}
 use lib.ListN.{length}
+use Rattle.laws.specs.Refusal.{refused_with, given}
 use Rattle.memory.specs.PlainReading.{plain_reading}
 use Rattle.image.specs.Test.{image_test}
-use Rattle.image.specs.Calls.{writing_answer, written, restoring_refusal, restored}
+use Rattle.image.specs.Calls.{writing_refusal, writing_answer, written, restoring_refusal, restored}
 use Rattle.play.specs.Play.{plays}
 use Rattle.play.specs.Seen.{left}
 use Rattle.session.specs.Session.{kept_of}
@@ -26,6 +27,7 @@ use Rattle.cache.proofs.State.show_refusal.Kinds as show-refusal-kinds
 use Rattle.cache.proofs.State.show_refusal.Reads as show-refusal
 use Rattle.image.proofs.image_test.Kinds as image-test-kinds
 use Rattle.image.proofs.image_test.Reads as image-test
+use Rattle.writing.proofs.One.{answer-one}
 use Rattle.writing.proofs.write_image.Kinds as write-image-kinds
 use Rattle.writing.proofs.write_image.Reads as write-image
 use Rattle.restoring.proofs.restore.Kinds as restore-kinds
@@ -70,7 +72,7 @@ pub one-image-test : OfAnyTwo image-test-kinds.ps image-test-kinds.r image-test.
 one-image-test κs a x y s t p q = p ∙ sym q
 
 pub one-write-image : OfAnyTwo write-image-kinds.ps write-image-kinds.r write-image.Post (λ κs x y s t. (x ≡ y) × (s.1.1.0.now ≡ t.1.1.0.now))
-one-write-image κs a x y s t p q = (p.0 ∙ sym q.0, p.1 ∙ sym q.1)
+one-write-image κs a x y s t p q = (answer-one x y (p.0 ∙ sym q.0) (p.1 ∙ sym q.1), p.2 ∙ sym q.2)
 
 pub one-restore : OfAnyTwo restore-kinds.ps restore-kinds.r restore.Post (λ κs x y s t. (x ≡ y) × (s.1.0.now ≡ t.1.0.now))
 one-restore κs a x y s t p q = (p.0 ∙ sym q.0, p.1 ∙ sym q.1)
@@ -96,7 +98,7 @@ pub image-test-is : OfAny image-test-kinds.ps image-test-kinds.r image-test.Post
 image-test-is κs a x s p = p
 
 pub write-image-is : OfAny write-image-kinds.ps write-image-kinds.r write-image.Post
-    (λ κs a x s. (x ≡ writing_answer a.0 a.1.0.now (length a.1.1.0.now)) × (s.1.1.0.now ≡ written a.0 a.1.0.now a.1.1.0.now))
+    (λ κs a x s. (given x ≡ writing_answer a.0 a.1.0.now (length a.1.1.0.now)) × (refused_with x ≡ writing_refusal a.0 a.1.0.now (length a.1.1.0.now)) × (s.1.1.0.now ≡ written a.0 a.1.0.now a.1.1.0.now))
 write-image-is κs a x s p = p
 
 pub restore-is : OfAny restore-kinds.ps restore-kinds.r restore.Post

@@ -8,7 +8,7 @@ ghost use Rattle.model.specs.Archive.{restoring_answer, reader_opened, record_re
 pub extern "C" fn tag_write_image(n: u64, memory: &[u8], output: &mut [u8]) -> u64
     ensures { (result ≡ writing_answer n memory.now (length output.old)) × (output.new ≡ written n memory.now output.old) }
 {
-    writing::write_image(n, memory, output)
+    laws::given(writing::write_image(n, memory, output))
 }
 
 // Restoring: 0, or 4,294,967,296 plus the refusal.

@@ -7,7 +7,7 @@ ghost use Rattle.salvage.specs.Salvage.{salvaging, numbered, as_number, listed_n
 pub extern "C" fn tag_salvage(image: &[u8], output: &mut [u8], list: &mut [u64]) -> u64
     ensures { numbered result output.new list.new ≡ as_number (salvaging image.now output.old list.old) }
 {
-    salvage::salvage_length(image, output, list)
+    laws::given(salvage::salvage_length(image, output, list))
 }
 
 // The number of entries, or 4,294,967,296 plus the refusal of the head.
@@ -15,5 +15,5 @@ pub extern "C" fn tag_salvage(image: &[u8], output: &mut [u8], list: &mut [u64])
 pub extern "C" fn tag_salvage_listed(image: &[u8]) -> u64
     ensures { result ≡ listed_number image.now }
 {
-    salvage::salvage_listed(image)
+    laws::given(salvage::salvage_listed(image))
 }

@@ -2,21 +2,35 @@
 use mathlib.Core.Path.{◌≡◌, ap}
 use mathlib.Core.List.{List}
 use Prim.Native.Nat.{ℕ}
+use native.Mathlib.Omega.{arith}
+use Rattle.std.specs.Prelude.{Result, Ok, Err}
+use Rattle.laws.specs.declared.Refusal.{Refusal}
+use Rattle.laws.specs.Refusal.{refused_with, given, refusal}
 use Rattle.geometry.proofs.One.{one}
 use Rattle.salvage.specs.declared.Salvaged.{Salvaged}
-use Rattle.salvage.specs.Salvage.{Left, left, salvaging, Numbered, numbered, as_number, listed_number}
+use Rattle.salvage.specs.Salvage.{head_tests, Answer, told, Left, left, salvaging, Numbered, numbered, as_number, listed_number}
+use Rattle.writing.proofs.One.{refusal-one, refused-some, answer-one}
 
-pub salvage-one : (image output list : List ℕ) {a b : Salvaged} {o p l m : List ℕ}
-    → left a o l ≡ salvaging image output list → left b p m ≡ salvaging image output list → (a ≡ b) × (o ≡ p) × (l ≡ m)
-salvage-one image output list {a = a} {b = b} {o = o} {p = p} {l = l} {m = m} x y =
-    let e : left a o l ≡ left b p m = one x y in
-    (ap (λ (t : Left). t.answer) e, ap (λ (t : Left). t.output) e, ap (λ (t : Left). t.list) e)
+-- two answers that are told the same are one
+told-one : (x y : Result Salvaged Refusal) → told x ≡ told y → x ≡ y
+told-one (Ok a) (Ok b) e = (λ i. Ok (record { length = (e i).length; listed = (e i).listed }))
+told-one (Ok a) (Err s) e = absurd (omega (arith, ap (λ (t : Answer). t.refusal) e, refused-some s))
+told-one (Err r) (Ok b) e = absurd (omega (arith, ap (λ (t : Answer). t.refusal) e, refused-some r))
+told-one (Err r) (Err s) e = ap Err (refusal-one r s (ap (λ (t : Answer). t.refusal) e))
 
-pub salvage-length-one : (image output list : List ℕ) {r s : ℕ} {o p l m : List ℕ}
-    → numbered r o l ≡ as_number (salvaging image output list) → numbered s p m ≡ as_number (salvaging image output list) → (r ≡ s) × (o ≡ p) × (l ≡ m)
-salvage-length-one image output list {r = r} {s = s} {o = o} {p = p} {l = l} {m = m} x y =
-    let e : numbered r o l ≡ numbered s p m = one x y in
-    (ap (λ (t : Numbered). t.number) e, ap (λ (t : Numbered). t.output) e, ap (λ (t : Numbered). t.list) e)
+pub salvage-one : (image output list : List ℕ) {x y : Result Salvaged Refusal} {o p l m : List ℕ}
+    → left (told x) o l ≡ salvaging image output list → left (told y) p m ≡ salvaging image output list → (x ≡ y) × (o ≡ p) × (l ≡ m)
+salvage-one image output list {x = x} {y = y} {o = o} {p = p} {l = l} {m = m} a b =
+    let e : left (told x) o l ≡ left (told y) p m = one a b in
+    (told-one x y (ap (λ (t : Left). t.answer) e), ap (λ (t : Left). t.output) e, ap (λ (t : Left). t.list) e)
 
-pub salvage-listed-one : (image : List ℕ) {r s : ℕ} → r ≡ listed_number image → s ≡ listed_number image → r ≡ s
-salvage-listed-one image = one
+pub salvage-length-one : (image output list : List ℕ) {x y : Result ℕ Refusal} {o p l m : List ℕ}
+    → (numbered (given x) o l ≡ as_number (salvaging image output list)) × (refused_with x ≡ (salvaging image output list).answer.refusal)
+    → (numbered (given y) p m ≡ as_number (salvaging image output list)) × (refused_with y ≡ (salvaging image output list).answer.refusal) → (x ≡ y) × (o ≡ p) × (l ≡ m)
+salvage-length-one image output list {x = x} {y = y} {o = o} {p = p} {l = l} {m = m} a b =
+    let e : numbered (given x) o l ≡ numbered (given y) p m = one a.0 b.0 in
+    (answer-one x y (ap (λ (t : Numbered). t.number) e) (one a.1 b.1), ap (λ (t : Numbered). t.output) e, ap (λ (t : Numbered). t.list) e)
+
+pub salvage-listed-one : (image : List ℕ) {x y : Result ℕ Refusal}
+    → (given x ≡ listed_number image) × (refused_with x ≡ refusal (head_tests image)) → (given y ≡ listed_number image) × (refused_with y ≡ refusal (head_tests image)) → x ≡ y
+salvage-listed-one image {x = x} {y = y} a b = answer-one x y (one a.0 b.0) (one a.1 b.1)

@@ -1,29 +1,28 @@
 -- Laws of salvage's refusals: one for each way out, and what the call then answers and leaves.
 use mathlib.Core.Path.{◌≡◌, refl, ap, sym, ◌∙◌}
 use mathlib.Core.List.{List, []}
-use mathlib.Core.Bool.{Bool, true, false}
+use mathlib.Core.Bool.{true, false}
 use Prim.Native.Nat.{ℕ, ◌+◌, ◌*◌, ◌%◌, ◌≤◌, ◌<◌}
 use native.Mathlib.Omega.{arith}
 use lib.ListN.{length}
 use lib.Dec.{eqb, ltb, leb}
 use borrow.Author.Tests.{eq-eqb, ne_eqb, eqb-true, ltb-true, le-leb, lt-leb}
-use Rattle.laws.specs.Choice.{pick, both}
+use Rattle.laws.specs.Choice.{both}
 use Rattle.laws.specs.Bytes.{splice}
 use Rattle.laws.specs.Refusal.{refusal, unless}
 use Rattle.laws.proofs.Choice.{both_true, both_left, both_right, both-false-left, both-false-right}
-use Rattle.laws.proofs.Refusals.{Hold, refusal-0, refusal-hold, refusal-first, refusal-then, refusal-past, unless-0, unless-no, unless-by}
-use Rattle.sums.specs.Check.{check_right}
+use Rattle.laws.proofs.Refusals.{Hold, refusal-0, refusal-hold, refusal-first, refusal-then, refusal-past, unless-0, unless-no}
 use Rattle.form.specs.Encode.{version2, blocks_for}
-use Rattle.form.specs.Test.{image_block, head_sound, form_of, leaves_in, length_right}
+use Rattle.form.specs.Test.{leaves_in, length_right}
 use Rattle.form.proofs.Sound.{fit-2}
 use Rattle.form.proofs.Records.{length-encode}
-use Rattle.salvage.specs.declared.Salvaged.{Salvaged}
+use Rattle.salvage.specs.Salvage.{Answer}
 use Rattle.damaged.specs.Taken.{taken}
 use Rattle.salvage.specs.Salvage.{new_image, head_tests, room_tests, salvage_refusal, Left, left, salvaging, numbered, as_number, listed_number}
 use Rattle.damaged.proofs.Kept.{kept-sized}
 
-abbrev pub refused_with : ℕ → Salvaged
-refused_with c = record { refusal = c; length = 0; listed = 0 }
+abbrev pub no_answer : ℕ → Answer
+no_answer c = record { refusal = c; length = 0; listed = 0 }
 
 module _ (image : List ℕ) where
   -- an image whose head is not refused
@@ -46,16 +45,16 @@ module _ (image : List ℕ) where
 
   -- the refusal and the answers
   module _ (output list : List ℕ) where
-    abbrev accepted : Salvaged
+    abbrev accepted : Answer
     accepted = record { refusal = 0; length = length (new_image image); listed = length (taken image).listed }
 
-    answers-no : (c : ℕ) → salvage_refusal image (length output) (length list) ≡ c → 0 < c → left (refused_with c) output list ≡ salvaging image output list
+    answers-no : (c : ℕ) → salvage_refusal image (length output) (length list) ≡ c → 0 < c → left (no_answer c) output list ≡ salvaging image output list
     unfolding salvaging
     answers-no c e h =
-        sym (ap (λ (x : ℕ). unless x (left accepted (splice output 0 (new_image image)) (splice list 0 (taken image).listed)) (λ d. left (refused_with d) output list)) e
-        ∙ unless-no (left accepted (splice output 0 (new_image image)) (splice list 0 (taken image).listed)) (λ d. left (refused_with d) output list) h)
+        sym (ap (λ (x : ℕ). unless x (left accepted (splice output 0 (new_image image)) (splice list 0 (taken image).listed)) (λ d. left (no_answer d) output list)) e
+        ∙ unless-no (left accepted (splice output 0 (new_image image)) (splice list 0 (taken image).listed)) (λ d. left (no_answer d) output list) h)
 
-    pub head-refused : (c : ℕ) → c ≡ refusal (head_tests image) → (c ≡ 0 → ⊥) → left (refused_with c) output list ≡ salvaging image output list
+    pub head-refused : (c : ℕ) → c ≡ refusal (head_tests image) → (c ≡ 0 → ⊥) → left (no_answer c) output list ≡ salvaging image output list
     unfolding salvage_refusal
     head-refused c e h =
         let p : 0 < c = omega arith in
@@ -66,10 +65,10 @@ module _ (image : List ℕ) where
       unfolding salvage_refusal
       nine h = refusal-first (head_tests image) (both (leb (length (new_image image)) (length output)) (leb (length (taken image).listed) (length list))) 9 [] (holds e) h
 
-      pub short-output : length output < length (new_image image) → left (refused_with 9) output list ≡ salvaging image output list
+      pub short-output : length output < length (new_image image) → left (no_answer 9) output list ≡ salvaging image output list
       short-output h = answers-no 9 (nine (both-false-left _ _ (lt-leb (length (new_image image)) (length output) h))) (omega arith)
 
-      pub short-list : length list < length (taken image).listed → left (refused_with 9) output list ≡ salvaging image output list
+      pub short-list : length list < length (taken image).listed → left (no_answer 9) output list ≡ salvaging image output list
       short-list h = answers-no 9 (nine (both-false-right _ _ (lt-leb (length (taken image).listed) (length list) h))) (omega arith)
 
       module _ (r : length (new_image image) ≤ length output) (s : length (taken image).listed ≤ length list) where
@@ -81,7 +80,7 @@ module _ (image : List ℕ) where
 
         pub salvages : salvaging image output list ≡ left accepted (splice output 0 (new_image image)) (splice list 0 (taken image).listed)
         unfolding salvaging
-        salvages = unless-0 (left accepted (splice output 0 (new_image image)) (splice list 0 (taken image).listed)) (λ d. left (refused_with d) output list) not-refused
+        salvages = unless-0 (left accepted (splice output 0 (new_image image)) (splice list 0 (taken image).listed)) (λ d. left (no_answer d) output list) not-refused
 
   -- the number of entries
   pub listed-no : (c : ℕ) → c ≡ refusal (head_tests image) → (c ≡ 0 → ⊥) → 4294967296 + c ≡ listed_number image
@@ -93,34 +92,6 @@ module _ (image : List ℕ) where
   pub listed-is : refusal (head_tests image) ≡ 0 → length (taken image).listed ≡ listed_number image
   unfolding listed_number
   listed-is e = sym (unless-0 (length (taken image).listed) (λ d. 4294967296 + d) e)
-
-  -- no refusal is above 11
-  pub refusal-small : refusal (head_tests image) ≤ 11
-  unfolding refusal
-  refusal-small = small (both (length_right image) (check_right (form_of image).modulus (image_block image 0))) (head_sound (form_of image) (image_block image 0))
-    where
-      small : (a b : Bool) → pick {A = ℕ} a (pick {A = ℕ} b 0 11) 10 ≤ 11
-      small true true = omega arith
-      small true false = omega arith
-      small false b = omega arith
-
-  small-answer : (output list : List ℕ) → salvage_refusal image (length output) (length list) ≤ 11
-  unfolding refusal salvage_refusal
-  small-answer output list =
-      small (both (length_right image) (check_right (form_of image).modulus (image_block image 0))) (head_sound (form_of image) (image_block image 0))
-      (both (leb (length (new_image image)) (length output)) (leb (length (taken image).listed) (length list)))
-    where
-      small : (a b c : Bool) → pick {A = ℕ} a (pick {A = ℕ} b (pick {A = ℕ} c 0 9) 11) 10 ≤ 11
-      small true true true = omega arith
-      small true true false = omega arith
-      small true false c = omega arith
-      small false b c = omega arith
-
-  pub answer-small : (output list : List ℕ) → (salvaging image output list).answer.refusal ≤ 11
-  unfolding salvaging
-  answer-small output list =
-      unless-by (left (accepted output list) (splice output 0 (new_image image)) (splice list 0 (taken image).listed)) (λ d. left (refused_with d) output list)
-      (λ (s : Left). s.answer.refusal ≤ 11) (λ z. omega arith) (λ h. small-answer output list)
 
 -- an answer as one number
 module _ (s : Left) where

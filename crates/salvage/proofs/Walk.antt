@@ -24,6 +24,7 @@ use Rattle.form.proofs.Sound.{form-modulus}
 use Rattle.damaged.specs.Taken.{Taken, used, above, take_record}
 use Rattle.damaged.proofs.Taken.{length_more, get_d-last, above-none, above_more, record-kept, record-left}
 use Rattle.salvage.specs.Salvage.{head_tests}
+use Rattle.salvage.specs.Goes.{with_entry}
 use Rattle.salvage.specs.Walk.{record_place, closed_at, with_record, with_records, last_closed, with_entries, At}
 
 -- a record of the new image, its last block, an entry of the list
@@ -150,19 +151,17 @@ module _ (n low : ℕ) (b : List ℕ) (i : ℕ) (long : length b ≡ 512) (few :
   read_is : read ≡ record_in b i
   read_is = λ x. record { leaf = e x; content = (f ∙ block_or0-fits b (12 + 68 * i) (omega arith)) x }
 
-  module _ (j kept listed : ℕ) (output list : List ℕ) where
-    good-taken : (t : Taken) → low ≡ above t.kept → good_above n (above t.kept) (record_in b i) ≡ good_above n low read
-    good-taken t h = λ x. good_above n (sym h x) (sym read_is x)
+  good-taken : (t : Taken) → low ≡ above t.kept → good_above n (above t.kept) (record_in b i) ≡ good_above n low read
+  good-taken t h = λ x. good_above n (sym h x) (sym read_is x)
 
+  pub passed : (j : ℕ) → good_above n low read ≡ false → (t : Taken) → low ≡ above t.kept → take_record n j b t i ≡ with_entry (8 * j + i) t
+  passed j h t e = record-left n j b t i (good-taken t e ∙ h)
+
+  module _ (j kept listed : ℕ) (output list : List ℕ) where
     pub took : good_above n low read ≡ true → (after : List ℕ) → after ≡ with_record output kept (record_bytes read)
         → (o l : List ℕ) (t : Taken) → At o l t kept low listed output list → At o l (take_record n j b t i) (kept + 1) (k + 1) listed after list
     took h after g o l t a =
         rw (record-kept n j b t i (good-taken t a.low-is ∙ h), ← read_is, g) (at-record o l t kept low listed output list a read)
-
-    pub passed : good_above n low read ≡ false → (after : List ℕ) → after ≡ put_w 1 list listed ((8 * j + i) ∷ [])
-        → (o l : List ℕ) (t : Taken) → At o l t kept low listed output list → At o l (take_record n j b t i) kept low (listed + 1) output after
-    passed h after g o l t a =
-        rw (record-left n j b t i (good-taken t a.low-is ∙ h), g) (at_entry o l t kept low listed output list a (8 * j + i))
 
 -- block j is used, as the code finds it of the block that is lent
 pub used-is : (image : List ℕ) (j : ℕ) {v : ℕ} {r : Bool} → v ≡ version_in image

@@ -1,2 +1,3 @@
 pub mod Salvage
 pub mod Walk
+pub mod Goes

@@ -1,8 +1,9 @@
 -- 02 E8 "Salvage a damaged image": what the call answers and leaves.
-use Rattle.std.specs.Prelude.{List, [], ◌∷◌, ◌++◌, ℕ, ◌+◌, length, eqb, leb}
+use Rattle.std.specs.Prelude.{List, [], ◌∷◌, ◌++◌, ℕ, ◌+◌, length, eqb, leb, Result, Ok, Err}
 use Rattle.laws.specs.Choice.{pick, both}
 use Rattle.laws.specs.Bytes.{splice}
-use Rattle.laws.specs.Refusal.{Tests, refusal, unless}
+use Rattle.laws.specs.declared.Refusal.{Refusal}
+use Rattle.laws.specs.Refusal.{number, Tests, refusal, unless}
 use Rattle.sums.specs.Check.{check_right}
 use Rattle.form.specs.Encode.{version2, encode}
 use Rattle.form.specs.Test.{image_block, head_sound, form_of, leaves_in, length_right}
@@ -24,13 +25,23 @@ room_tests image room entries = (both (leb (length (new_image image)) room) (leb
 unfoldable pub salvage_refusal : List ℕ → (room entries : ℕ) → ℕ
 salvage_refusal image room entries = refusal (head_tests image ++ room_tests image room entries)
 
+-- what a salvage answers: the refusal, 0 if none; the new image's length and the number of entries, 0 where refused
+pub record Answer : Type 0 where
+  pub refusal : ℕ
+  pub length : ℕ
+  pub listed : ℕ
+
+abbrev pub told : Result Salvaged Refusal → Answer
+told (Ok s) = record { refusal = 0; length = s.length; listed = s.listed }
+told (Err r) = record { refusal = number r; length = 0; listed = 0 }
+
 -- what a salvage answers, and the output and the list that it leaves
 pub record Left : Type 0 where
-  pub answer : Salvaged
+  pub answer : Answer
   pub output : List ℕ
   pub list : List ℕ
 
-abbrev pub left : Salvaged → List ℕ → List ℕ → Left
+abbrev pub left : Answer → List ℕ → List ℕ → Left
 left a o l = record { answer = a; output = o; list = l }
 
 -- the image's length and the number listed, the image in front of the output and the list in front of the list; of a refusal its number, and all as it came

@@ -2,7 +2,7 @@
 use mathlib.Core.Path.{◌≡◌, refl, ap, sym, ◌∙◌}
 use mathlib.Core.List.{List, [], ◌++◌, append_assoc}
 use mathlib.Core.Logic.{inr, ⊎_elim}
-use Prim.Native.Nat.{ℕ, suc, ◌+◌, ◌*◌, ◌-◌, ◌≤◌, ◌<◌}
+use Prim.Native.Nat.{ℕ, suc, ◌+◌, ◌*◌, ◌-◌, ◌≤◌, ◌<◌, min}
 use native.Mathlib.Numerals.{add-one}
 use native.Mathlib.Omega.{arith}
 use lib.ListN.{length, get_or, replicate, length-append, length-replicate}
@@ -132,6 +132,14 @@ pub record Progress (o mem : List ℕ) (n m : ℕ) (out : List ℕ) (j k : ℕ) 
 pub start : (o mem : List ℕ) (n m : ℕ) → records_below n mem 0 ≡ [] → Progress o mem n m o 0 0
 unfolding record_blocks
 start o mem n m e = record { long = refl; done = sym (splice-none o 512); leaf = omega arith; place = rw e (omega arith); few = omega arith }
+
+-- the count of the next block, as the least of two
+pub next-least : (left : ℕ) → min left 7 ≡ next7 left
+next-least left =
+    ⊎_elim
+    (λ (h : left < 8). let e : next7 left ≡ left = next-few left (omega arith) in omega arith)
+    (λ (h : 8 ≤ left). let e : next7 left ≡ 7 = next-full left (omega arith) in omega arith)
+    (lt-or-ge left 8)
 
 -- one block more
 module _ (o mem : List ℕ) (n m : ℕ) (out : List ℕ) (j k : ℕ) (P : Progress o mem n m out j k) (em : m ≡ length (records_of n mem)) (more : j < blocks_for m) where

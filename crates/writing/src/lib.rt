@@ -8,11 +8,11 @@ ghost use Rattle.geometry.specs.TagMemory.{memory_length};
 ghost use Rattle.memory.specs.PlainReading.{leaf_bit};
 ghost use Rattle.memory.specs.True.{is_true};
 ghost use Rattle.form.specs.Encode.{version2, records_bytes, headed, block_front, closed, block_of, next7, record_blocks, blocks_for, records_below, records_of, image_of};
-ghost use Rattle.form.specs.Calls.{writing_answer, written};
+ghost use Rattle.form.specs.Calls.{writing_refusal, writing_answer, written};
+ghost use Rattle.laws.specs.Refusal.{refused_with, given};
 
 use geometry::Geometry;
-
-const REFUSED: u64 = 4294967296;
+use laws::Refusal;
 
 // The leaf after j and the others of its word of the map, or n.
 fn past_word(n: u32, j: u32) -> u32
@@ -65,10 +65,7 @@ fn count_marked(n: u32, memory: &[u8]) -> u32
 pub fn put_record(row: &mut [u8], at: usize, leaf: u32, content: &[u8; Geometry::BLOCK_LEN])
     ensures { row.new ≡ put_w 68 row.old at (bytes 4 leaf ++ content.now) }
 {
-    if row.len() < image::RECORD {
-        return;
-    }
-    if row.len() - image::RECORD < at {
+    if row.len() < image::RECORD || row.len() - image::RECORD < at {
         return;
     }
     block::put_four(row, at, leaf);
@@ -80,14 +77,12 @@ fn put_records(row: &mut [u8], count: usize, n: u32, memory: &[u8], k: u32) -> u
     requires { (length row.old ≡ 512) × (count ≤ 7) × (length memory.now ≡ memory_length n) × (k ≤ n) × (length (records_below n memory.now k) + count ≤ length (records_of n memory.now)) }
     ensures { (row.new ≡ splice row.old 8 (records_bytes (records_of n memory.now) (length (records_below n memory.now k)) count)) × (result ≤ n) × (length (records_below n memory.now result) ≡ length (records_below n memory.now k) + count) }
 {
-    let mut i: usize = 0;
-    let mut next: u32 = k;
-    while i < count {
+    let mut next = k;
+    for i in 0..count {
         let found = next_marked(n, memory, next);
         let leaf = block::read_block(memory, Geometry::block_place(found));
         put_record(row, image::RECORDS + image::RECORD * i, found, &leaf);
         next = found + 1;
-        i += 1;
     }
     next
 }
@@ -106,10 +101,7 @@ fn put_front(row: &mut [u8], j: u32, count: u16)
 pub fn close_block(row: &mut [u8], j: u32, count: u16)
     ensures { row.new ≡ closed 65536 row.old j count }
 {
-    if row.len() != image::BLOCK {
-        return;
-    }
-    if 7 < count {
+    if row.len() != image::BLOCK || 7 < count {
         return;
     }
     put_front(row, j, count);
@@ -144,26 +136,14 @@ pub fn put_head(row: &mut [u8], n: u32, m: u32)
     sums::seal(row);
 }
 
-// Of `left` records the next block has 7, or all where they are fewer.
-fn next_7(left: u32) -> u16
-    ensures { result ≡ next7 left }
-{
-    if left <= 7 {
-        return left as u16;
-    }
-    7
-}
-
 // The record blocks of m leaves with bit 1, from block 1 on.
 fn put_blocks(output: &mut [u8], n: u32, memory: &[u8], m: u32)
     requires { (512 * (1 + blocks_for m) ≤ length output.old) × (length memory.now ≡ memory_length n) × (n ≤ 262144) × (m ≤ n) × (m ≡ length (records_of n memory.now)) }
     ensures { output.new ≡ splice output.old 512 (record_blocks 65536 (records_of n memory.now) (blocks_for m)) }
 {
-    let blocks = (m + 6) / 7;
-    let mut j: u32 = 0;
-    let mut k: u32 = 0;
-    while j < blocks {
-        let count = next_7(m - 7 * j);
+    let mut k = 0;
+    for j in 0..m.div_ceil(7) {
+        let count = (m - 7 * j).min(7) as u16;
         let at = image::BLOCK * (j as usize + 1);
         k = put_block(
             &mut output[at..at + image::BLOCK],
@@ -173,7 +153,6 @@ fn put_blocks(output: &mut [u8], n: u32, memory: &[u8], m: u32)
             memory,
             k,
         );
-        j += 1;
     }
 }
 
@@ -186,25 +165,32 @@ fn put_image(output: &mut [u8], n: u32, memory: &[u8], m: u32)
     put_blocks(output, n, memory, m);
 }
 
-// Writing: the image's length, or REFUSED plus the refusal (1, 2, 3, 9); the output past the image stays as it was, and all of it where refused.
-pub fn write_image(n: u64, memory: &[u8], output: &mut [u8]) -> u64
-    ensures { (result ≡ writing_answer n memory.now (length output.old)) × (output.new ≡ written n memory.now output.old) }
+// The length of an image of m records.
+pub fn length_for(m: u32) -> usize
+    ensures { result ≡ 512 * (1 + blocks_for m) }
+{
+    image::BLOCK * (1 + (m as usize).div_ceil(image::FULL))
+}
+
+// Writing: the image's length, or the refusal (1, 2, 3, 9); the output past the image stays as it was, and all of it where refused.
+pub fn write_image(n: u64, memory: &[u8], output: &mut [u8]) -> Result<u64, Refusal>
+    ensures { (given result ≡ writing_answer n memory.now (length output.old)) × (refused_with result ≡ writing_refusal n memory.now (length output.old)) × (output.new ≡ written n memory.now output.old) }
 {
     if !Geometry::in_limits(n) {
-        return REFUSED + 1;
+        return Err(Refusal::OutsideLimits);
     }
     let leaves = n as u32;
     if memory.len() as u64 != Geometry::memory_length(leaves) {
-        return REFUSED + 2;
+        return Err(Refusal::OtherLength);
     }
     if !memory::is_true(leaves, memory) {
-        return REFUSED + 3;
+        return Err(Refusal::NotTrue);
     }
     let m = count_marked(leaves, memory);
-    let long = image::BLOCK * (1 + (m as usize + 6) / image::FULL);
+    let long = length_for(m);
     if output.len() < long {
-        return REFUSED + 9;
+        return Err(Refusal::NoRoom);
     }
     put_image(output, leaves, memory, m);
-    long as u64
+    Ok(long as u64)
 }

@@ -12,10 +12,6 @@ pub returns-then-output-lt-BLOCK : goal.returns-then-output-lt-BLOCK
 unfolding closed_at
 returns-then-output-lt-BLOCK c = sym (put_w-not 512 _ _ _ (omega arith))
 
-pub returns-then-output-at : goal.returns-then-output-at
-unfolding closed_at
-returns-then-output-at c = sym (put_w-not 512 _ _ _ (omega arith))
-
 pub returns : goal.returns
 unfolding closed_at
 returns c = let a = c.args in

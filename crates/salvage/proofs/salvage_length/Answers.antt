@@ -1,17 +1,19 @@
 -- `salvage::salvage_length` meets its contract: the salvage, and its answer as one number.
-use mathlib.Core.Path.{ap, ◌∙◌}
+use mathlib.Core.Path.{refl, ap, ◌∙◌}
 use native.Mathlib.Omega.{arith}
-use Rattle.salvage.specs.Salvage.{Left, as_number}
-use Rattle.salvage.proofs.Refusals.{answer-small, length-no, length-is}
+use Rattle.std.specs.Prelude.{Ok, Err}
+use Rattle.std.proofs.lemmas.Result.{err_from_is_err_and}
+use Rattle.writing.proofs.One.{refused-some}
+use Rattle.salvage.specs.Salvage.{Left, told, left, as_number}
+use Rattle.salvage.proofs.Refusals.{length-no, length-is}
 use Rattle.salvage.proofs.salvage_length.Goals as goal
 
-pub overflow_add-result : goal.overflow_add-result
-overflow_add-result c = let a = c.args in
-    let s = c.salvage-salvaged in
-    omega (arith, ap (λ (x : Left). x.answer.refusal) s.ensures, answer-small a.image.now a.output.now a.list.now)
-
-pub returns-then-salvaged-ne0 : goal.returns-then-salvaged-ne0
-returns-then-salvaged-ne0 c = length-no _ c.if-salvaged-ne0.true ∙ ap as_number c.salvage-salvaged.ensures
+pub returns-in_err-salvaged : goal.returns-in_err-salvaged
+returns-in_err-salvaged c = let r = c.in_err-salvaged.field-0.0 in
+    let e = c.in_err-salvaged.ensures in
+    let p = err_from_is_err_and c.from_residual.result c.from_residual.ensures.1 in
+    rw (p.1, p.2) (length-no (left (told (Err r)) c.salvage.new.output c.salvage.new.list) (λ z. omega (arith, refused-some r)) ∙ ap as_number e, ap (λ (t : Left). t.answer.refusal) e)
 
 pub returns : goal.returns
-returns c = length-is _ c.if-salvaged-ne0.false ∙ ap as_number c.salvage-salvaged.ensures
+returns c = let e = c.in_ok-salvaged.ensures in
+    (length-is (left (told (Ok c.in_ok-salvaged.salvaged)) c.salvage.new.output c.salvage.new.list) refl ∙ ap as_number e, ap (λ (t : Left). t.answer.refusal) e)

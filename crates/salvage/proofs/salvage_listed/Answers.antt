@@ -1,23 +1,25 @@
 -- `salvage::salvage_listed` meets its contract, by a law for each way out.
 use mathlib.Core.Path.{◌≡◌, sym, ◌∙◌}
 use native.Mathlib.Omega.{arith}
-use Rattle.laws.specs.Refusal.{refusal}
+use Rattle.std.proofs.lemmas.Result.{err_from_is_err_and}
+use Rattle.laws.specs.Refusal.{number, refusal}
+use Rattle.writing.proofs.One.{refused-some}
 use Rattle.salvage.specs.Salvage.{head_tests}
-use Rattle.salvage.proofs.Refusals.{some, whole, listed-no, listed-is, refusal-small}
+use Rattle.salvage.proofs.Refusals.{some, whole, listed-no, listed-is}
 use Rattle.salvage.proofs.salvage_listed.Goals as goal
 
-pub overflow_add-result : goal.overflow_add-result
-overflow_add-result c = omega (arith, c.head_refusal-refused.ensures, refusal-small c.args.image.now)
-
-pub returns-then-refused-ne0 : goal.returns-then-refused-ne0
-returns-then-refused-ne0 c = listed-no c.args.image.now c.head_refusal-refused.result c.head_refusal-refused.ensures c.if-refused-ne0.true
+pub returns-in_err-test_head : goal.returns-in_err-test_head
+returns-in_err-test_head c = let r = c.in_err-test_head.field-0.0 in
+    let e = c.in_err-test_head.ensures in
+    let p = err_from_is_err_and c.from_residual.result c.from_residual.ensures.1 in
+    rw (p.1, p.2) (listed-no c.args.image.now (number r) e (λ z. omega (arith, refused-some r)), e)
 
 pub count-counted-requires : goal.count-counted-requires
 count-counted-requires c = let m = c.args.image.now in
-    let e : refusal (head_tests m) ≡ 0 = sym c.head_refusal-refused.ensures ∙ c.if-refused-ne0.false in
+    let e : refusal (head_tests m) ≡ 0 = sym c.in_ok-test_head.ensures in
     (some m e, whole m e)
 
 pub returns : goal.returns
 returns c = let m = c.args.image.now in
-    let e : refusal (head_tests m) ≡ 0 = sym c.head_refusal-refused.ensures ∙ c.if-refused-ne0.false in
-    c.count-counted.ensures.2 ∙ listed-is m e
+    let e : refusal (head_tests m) ≡ 0 = sym c.in_ok-test_head.ensures in
+    (c.count-counted.ensures.2 ∙ listed-is m e, sym e)

@@ -1,10 +1,6 @@
 -- `writing::put_blocks` meets its contract: j record blocks are written, and k is the leaf after the last of their records.
-use Prim.Native.Nat.{◌-◌}
 use Rattle.writing.proofs.Blocks.{Progress}
 use Rattle.writing.proofs.put_blocks.Given as goal
 
 abbrev pub invariant-loop-j : goal.invariant-loop-j
 invariant-loop-j l = Progress l.initial.output l.memory l.n l.m l.output l.j l.k
-
-abbrev pub decreases-loop-j : goal.decreases-loop-j
-decreases-loop-j l = l.blocks - l.j

@@ -8,8 +8,5 @@ use Rattle.writing.proofs.put_record.Goals as goal
 pub returns-then-row-lt-RECORD : goal.returns-then-row-lt-RECORD
 returns-then-row-lt-RECORD c = sym (put_w-not 68 _ c.args.at _ (omega arith))
 
-pub returns-then-row-at : goal.returns-then-row-at
-returns-then-row-at c = sym (put_w-not 68 _ c.args.at _ (omega arith))
-
 pub returns : goal.returns
 returns c = cc (record-law c.args.row.now c.args.at c.args.leaf c.args.content.now (omega arith))

@@ -9,30 +9,30 @@ use borrow.Author.Rules.{rules}
 use Rattle.writing.proofs.put_records.Goals as goal
 
 pub loop-i-init : goal.loop-i-init
-loop-i-init c = (omega arith, first-record _ _ _ _ (search rules))
+loop-i-init c = first-record _ _ _ _ (search rules)
 
 pub next_marked-found-requires : goal.next_marked-found-requires
-next_marked-found-requires c = (c.loop-i.invariant.1.leaf, search rules)
+next_marked-found-requires c = (c.loop-i.invariant.leaf, search rules)
 
 pub overflow_add-next : goal.overflow_add-next
 overflow_add-next c = let a = c.args in
     let l = c.loop-i in
     let f = c.next_marked-found in
-    omega (arith, found-leaf a.row.now a.memory.now a.n a.k l.row l.i l.next a.count f.result l.invariant.1 (omega arith) (omega arith) f.ensures.1 f.ensures.2)
+    omega (arith, found-leaf a.row.now a.memory.now a.n a.k l.row l.i l.next a.count f.result l.invariant (omega arith) (omega arith) f.ensures.1 f.ensures.2)
 
 pub loop-i-preserved : goal.loop-i-preserved
 loop-i-preserved c = let a = c.args in
     let l = c.loop-i in
     let f = c.next_marked-found in
-    let h = found-leaf a.row.now a.memory.now a.n a.k l.row l.i l.next a.count f.result l.invariant.1 (omega arith) (omega arith) f.ensures.1 f.ensures.2 in
+    let h = found-leaf a.row.now a.memory.now a.n a.k l.row l.i l.next a.count f.result l.invariant (omega arith) (omega arith) f.ensures.1 f.ensures.2 in
     let e = c.read_block-leaf.ensures ∙ ap (block_or0 a.memory.now) c.block_place.ensures ∙ block_or0-fits a.memory.now (64 * f.result) (omega arith) in
-    let w = next-record a.row.now a.memory.now a.n a.k l.row l.i l.next a.count f.result l.invariant.1 (omega arith) (omega arith) f.ensures.1 f.ensures.2 (f.ensures.3 h) (omega arith) (omega arith) c.read_block-leaf.result e in
-    (omega arith, rw c.put_record.ensures w)
+    let w = next-record a.row.now a.memory.now a.n a.k l.row l.i l.next a.count f.result l.invariant (omega arith) (omega arith) f.ensures.1 f.ensures.2 (f.ensures.3 h) (omega arith) (omega arith) c.read_block-leaf.result e in
+    rw c.put_record.ensures w
 
 pub shape_of-row : goal.shape_of-row
-shape_of-row c = c.loop-i.invariant.1.long
+shape_of-row c = c.loop-i.invariant.long
 
 pub returns : goal.returns
-returns c = let W = c.loop-i.invariant.1 in
+returns c = let W = c.loop-i.invariant in
     let e : c.loop-i.i ≡ c.args.count = omega arith in
     (rw (← e) W.done, W.leaf, rw (← e) W.place)
