@@ -3,6 +3,7 @@ use Rattle.std.specs.Prelude.{ℕ, ◌+◌, ◌-◌, List, Bool, true, not, leng
 use Rattle.laws.specs.Choice.{pick, both}
 use Rattle.output.specs.Line.{alike_at, line_of, bare, tells, shown}
 use Rattle.output.specs.declared.Counts.{Counts}
+use Rattle.output.specs.declared.Transfers.{Transfers}
 use Rattle.output.specs.declared.Line.{Line}
 use Rattle.output.specs.declared.Line.TheVariants.{Plain, Ending}
 use Rattle.measure.specs.declared.Carried.{Carried}
@@ -77,3 +78,7 @@ unfoldable pub other_transfers : Pair → Bool
 other_transfers p =
     both (both (tells (recorded p)) (tells (replayed p)))
     (not (both (eqb (shown (recorded p).transfers).fetched (shown (replayed p).transfers).fetched) (eqb (shown (recorded p).transfers).back (shown (replayed p).transfers).back)))
+
+-- where they do, what the record and the replay tell
+unfoldable pub differing : Pair → Option (Transfers × Transfers)
+differing p = pick (other_transfers p) (Some (shown (recorded p).transfers, shown (replayed p).transfers)) None

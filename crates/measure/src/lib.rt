@@ -3,10 +3,10 @@
 #![tactic(auto)]
 
 ghost use Rattle.std.specs.Prelude.{◌≡◌};
-ghost use Rattle.measure.specs.Pair.{same_from, other_pair, ending_pair, pair_of, one_pair, drift_of, other_transfers};
+ghost use Rattle.measure.specs.Pair.{same_from, other_pair, ending_pair, pair_of, one_pair, drift_of, differing};
 ghost use Rattle.measure.specs.Sheet.{plus_blocks, no_tally, added};
 
-use output::{Counts, Ending, Line};
+use output::{Counts, Ending, Line, Transfers};
 
 // What an ending carries in the record and in the replay.
 #[derive(Clone, Copy)]
@@ -100,18 +100,14 @@ impl Pair {
         }
     }
 
-    // Whether both tell transfers, and one of the two sums is another.
-    #[tactic(auto, using(std::proofs::lemmas::Bool::Decides::nat_tests), unfolding(crate::specs::Pair::other_transfers, laws::specs::Choice::both))]
-    pub fn other_transfers(self) -> bool
-        ensures { result ≡ other_transfers self }
+    // The transfers that the record and the replay tell, where both tell them and one of the two sums is another.
+    #[tactic(auto, using(std::proofs::lemmas::Bool::Decides::nat_tests), unfolding(crate::specs::Pair::differing, crate::specs::Pair::other_transfers, laws::specs::Choice::both))]
+    pub fn other_transfers(self) -> Option<(Transfers, Transfers)>
+        ensures { result ≡ differing self }
     {
-        let Some(e) = self.ending else {
-            return false;
-        };
-        match (e.recorded.transfers, e.replayed.transfers) {
-            (Some(t), Some(u)) => t != u,
-            _ => false,
-        }
+        let e = self.ending?;
+        let (t, u) = (e.recorded.transfers?, e.replayed.transfers?);
+        if t != u { Some((t, u)) } else { None }
     }
 }
 
