@@ -6,8 +6,9 @@ use mathlib.Core.List.{List, [], ◌∷◌, ◌++◌}
 use Rattle.laws.specs.Choice.{both, either}
 use Rattle.laws.specs.Scan.{all, first, count}
 use Rattle.wording.specs.Words.{ok_word, turns_word, done_word, same_word, read_word, in_word, out_word}
-use Rattle.output.specs.Line.{alike_at, has_at, ends_at, digit_of, digit_at, digits_from, number_at, last_of, hex_of, value_at, closes_at, plain_at, reads_at, count_at, number_is, out_of, rest_at, bare, counts, ending_with, ending_of, answer_at, after_number, line_of, is_line}
+use Rattle.output.specs.Line.{alike_at, has_at, ends_at, digit_of, digit_at, digits_from, number_at, last_of, hex_of, value_at, closes_at, plain_at, reads_at, count_at, number_is, out_of, transfers_at, rest_at, bare, counts, ending_with, ending_of, answer_at, after_number, line_of, is_line}
 use Rattle.output.specs.declared.Line.TheVariants.{Ending}
+use Rattle.std.specs.Prelude.{Some}
 use Rattle.laws.specs.Count.{sum, largest}
 use Rattle.measure.specs.Pair.{same_from, same_bytes, other_pair, ending_pair, pair_ending, pair_lines, pair_of, drift_of, other_transfers}
 use Rattle.measure.specs.Sheet.{places, pair_at, endings, drifted, farthest, farthest_line, total, changed, blocks, sheet, sheet_of}
@@ -34,7 +35,7 @@ replay-lines =
 pub four-places :
     sheet_of record-lines replay-lines
     ≡ record { lines = 4; endings = 2; drifted = 2; farthest = 12; line = 1; total = 24; changed = 4; recorded = record { fetched = 2; back = 1 }; replayed = record { fetched = 3; back = 3 } }
-unfolding alike_at has_at ends_at digit_of digit_at digits_from number_at last_of hex_of value_at closes_at plain_at reads_at count_at number_is out_of rest_at ending_with ending_of answer_at after_number line_of both either all first count sum largest same_from same_bytes other_pair ending_pair pair_ending pair_lines pair_of drift_of places pair_at endings drifted farthest farthest_line total changed blocks sheet sheet_of
+unfolding alike_at has_at ends_at digit_of digit_at digits_from number_at last_of hex_of value_at closes_at plain_at reads_at count_at number_is out_of transfers_at rest_at ending_with ending_of answer_at after_number line_of both either all first count sum largest same_from same_bytes other_pair ending_pair pair_ending pair_lines pair_of drift_of places pair_at endings drifted farthest farthest_line total changed blocks sheet sheet_of
 four-places = refl
 
 -- `7 done turns 3 in I out O`
@@ -51,7 +52,7 @@ pub transfers-compared :
     × ((pair_of (done-line 1 0) (done-line 1 1)).changed ≡ true)
     × ((pair_of (done-line 1 0) (done-line 1 0)).changed ≡ false)
     × ((pair_of (55 ∷ 32 ∷ done_word ++ turns_word ++ (51 ∷ [])) (done-line 1 0)).changed ≡ true)
-unfolding alike_at has_at ends_at digit_of digit_at digits_from number_at last_of hex_of value_at closes_at plain_at reads_at count_at number_is out_of rest_at ending_with ending_of answer_at after_number line_of both either all same_from same_bytes other_pair ending_pair pair_ending pair_lines pair_of drift_of other_transfers
+unfolding alike_at has_at ends_at digit_of digit_at digits_from number_at last_of hex_of value_at closes_at plain_at reads_at count_at number_is out_of transfers_at rest_at ending_with ending_of answer_at after_number line_of both either all same_from same_bytes other_pair ending_pair pair_ending pair_lines pair_of drift_of other_transfers
 transfers-compared = (refl, refl, refl, refl, refl, refl, refl, refl)
 
 -- `7 done turns 65536`, `7 done turns 03` and `7 done turns 3 ` are no lines of replay
@@ -59,15 +60,15 @@ pub strays :
     (is_line (line_of (55 ∷ 32 ∷ done_word ++ turns_word ++ (54 ∷ 53 ∷ 53 ∷ 51 ∷ 54 ∷ []))) ≡ false)
     × (is_line (line_of (55 ∷ 32 ∷ done_word ++ turns_word ++ (48 ∷ 51 ∷ []))) ≡ false)
     × (is_line (line_of (55 ∷ 32 ∷ done_word ++ turns_word ++ (51 ∷ 32 ∷ []))) ≡ false)
-unfolding alike_at has_at ends_at digit_of digit_at digits_from number_at last_of hex_of value_at closes_at plain_at reads_at count_at number_is out_of rest_at ending_with ending_of answer_at after_number line_of is_line both either all
+unfolding alike_at has_at ends_at digit_of digit_at digits_from number_at last_of hex_of value_at closes_at plain_at reads_at count_at number_is out_of transfers_at rest_at ending_with ending_of answer_at after_number line_of is_line both either all
 strays = (refl, refl, refl)
 
 -- `7 done turns 65535`: the count stands from place 13 to 18
-pub largest-count : line_of (55 ∷ 32 ∷ done_word ++ turns_word ++ (54 ∷ 53 ∷ 53 ∷ 51 ∷ 53 ∷ [])) ≡ Ending 13 (bare 65535) 18
-unfolding alike_at has_at ends_at digit_of digit_at digits_from number_at last_of hex_of value_at closes_at plain_at reads_at count_at number_is out_of rest_at ending_with ending_of answer_at after_number line_of both either all
+pub largest-count : line_of (55 ∷ 32 ∷ done_word ++ turns_word ++ (54 ∷ 53 ∷ 53 ∷ 51 ∷ 53 ∷ [])) ≡ Some (Ending (record { at = 13; counts = bare 65535; next = 18 }))
+unfolding alike_at has_at ends_at digit_of digit_at digits_from number_at last_of hex_of value_at closes_at plain_at reads_at count_at number_is out_of transfers_at rest_at ending_with ending_of answer_at after_number line_of both either all
 largest-count = refl
 
 -- `7 done turns 3 in 1 out 2`: what it carries
-pub carried : line_of (done-line 1 2) ≡ Ending 13 (counts 3 1 2) 14
-unfolding alike_at has_at ends_at digit_of digit_at digits_from number_at last_of hex_of value_at closes_at plain_at reads_at count_at number_is out_of rest_at ending_with ending_of answer_at after_number line_of both either all
+pub carried : line_of (done-line 1 2) ≡ Some (Ending (record { at = 13; counts = counts 3 1 2; next = 14 }))
+unfolding alike_at has_at ends_at digit_of digit_at digits_from number_at last_of hex_of value_at closes_at plain_at reads_at count_at number_is out_of transfers_at rest_at ending_with ending_of answer_at after_number line_of both either all
 carried = refl

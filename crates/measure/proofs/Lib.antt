@@ -1,6 +1,6 @@
-pub mod Pairs
-pub mod Tallies
 pub mod Sheets
 pub mod Zero
+pub mod Pairs
 pub mod Examples
 pub mod One
+pub mod Tallies

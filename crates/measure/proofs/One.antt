@@ -1,11 +1,12 @@
 -- Each promise of this crate allows one result for one input.
 use mathlib.Core.Path.{◌≡◌, sym, ◌∙◌}
-use mathlib.Core.Bool.{Bool}
+use Rattle.std.specs.Prelude.{Option}
+use Rattle.output.specs.declared.Transfers.{Transfers}
 use mathlib.Core.List.{List}
 use Prim.Native.Nat.{ℕ}
 use Rattle.measure.specs.declared.Pair.{Pair}
 use Rattle.measure.specs.declared.Tally.{Tally}
-use Rattle.measure.specs.Pair.{pair_of, one_pair, drift_of, other_transfers}
+use Rattle.measure.specs.Pair.{pair_of, one_pair, drift_of, differing}
 use Rattle.measure.specs.Sheet.{no_tally, added}
 
 pub compare-one : (recorded replayed : List ℕ) {r s : Pair} → r ≡ pair_of recorded replayed → s ≡ pair_of recorded replayed → r ≡ s
@@ -17,7 +18,7 @@ only-one-one p q = p ∙ sym q
 pub drift-one : (pair : Pair) {r s : ℕ} → r ≡ drift_of pair → s ≡ drift_of pair → r ≡ s
 drift-one pair p q = p ∙ sym q
 
-pub other-transfers-one : (pair : Pair) {r s : Bool} → r ≡ other_transfers pair → s ≡ other_transfers pair → r ≡ s
+pub other-transfers-one : (pair : Pair) {r s : Option (Transfers × Transfers)} → r ≡ differing pair → s ≡ differing pair → r ≡ s
 other-transfers-one pair p q = p ∙ sym q
 
 pub new-one : {r s : Tally} → r ≡ no_tally → s ≡ no_tally → r ≡ s

@@ -16,7 +16,8 @@ use Rattle.laws.proofs.Splice.{lt-or-ge}
 use Rattle.laws.proofs.Scan.{first-hit, first-none, first-suc-old}
 use Rattle.laws.proofs.Count.{largest-suc, largest-least, largest-first}
 use Rattle.laws.specs.Count.{sum, largest}
-use Rattle.measure.specs.Pair.{drift_of}
+use Rattle.output.specs.Line.{shown}
+use Rattle.measure.specs.Pair.{is_ending, recorded, replayed, drift_of}
 use Rattle.measure.specs.Sheet.{stay, places, pair_at, endings, drifted, farthest, farthest_line, total, changed, blocks, sheet, sheet_of, no_tally, plus_blocks, added, tallied}
 use Rattle.output.specs.declared.Counts.{Counts}
 use Rattle.measure.specs.declared.Pair.{Pair}
@@ -83,7 +84,7 @@ line-suc pair n =
 blocks_more : (carried : ℕ → Counts) (n : ℕ) → plus_blocks (blocks carried n) (carried n) ≡ blocks carried (suc n)
 unfolding plus_blocks blocks sum
 blocks_more carried n =
-    rw (← stay-stay (sum (λ k. (carried k).fetched) n) (carried n).fetched, ← stay-stay (sum (λ k. (carried k).back) n) (carried n).back)
+    rw (← stay-stay (sum (λ k. (shown (carried k).transfers).fetched) n) (shown (carried n).transfers).fetched, ← stay-stay (sum (λ k. (shown (carried k).transfers).back) n) (shown (carried n).transfers).back)
 
 start : (pair : ℕ → Pair) → no_tally ≡ sheet pair 0
 unfolding sheet endings drifted farthest farthest_line total changed blocks count sum largest first
@@ -94,13 +95,13 @@ unfolding sheet added endings drifted farthest total changed count sum largest
 more pair n =
     rw (
       ← line-suc pair n,
-      ← stay-stay (count (λ k. (pair k).ending) n) (one (pair n).ending),
+      ← stay-stay (count (λ k. is_ending (pair k)) n) (one (is_ending (pair n))),
       ← stay-stay (count (λ k. ltb 0 (drift_of (pair k))) n) (one (ltb 0 (drift_of (pair n)))),
       ← stay-stay (sum (λ k. drift_of (pair k)) n) (drift_of (pair n)),
       ← stay-stay (count (λ k. (pair k).changed) n) (one (pair n).changed),
       ← stay-stay n 1,
-      blocks_more (λ k. (pair k).recorded) n,
-      blocks_more (λ k. (pair k).replayed) n,
+      blocks_more (λ k. recorded (pair k)) n,
+      blocks_more (λ k. replayed (pair k)) n,
       add-one n,
     )
 

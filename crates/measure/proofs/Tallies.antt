@@ -1,45 +1,33 @@
--- Laws of the tally: one more place, where it is farther than any before and where it is not.
-use Prim.Native.Nat.{ℕ, ◌+◌, ◌<◌, ◌≤◌, max}
-use mathlib.Core.Path.{◌≡◌}
-use native.Mathlib.Omega.{arith}
-use borrow.Author.Tests.{lt-ltb, le-ltb}
-use lib.Dec.{ltb}
+-- Laws of the tally: one more place that is no ending of the same kind and value in both.
+use Rattle.std.proofs.Common.{ℕ, ◌+◌, ◌≤◌, max, ◌≡◌, Bool, true, false, refl, arith}
+use Rattle.std.specs.Prelude.{None}
+use Rattle.std.specs.Int.{from_bool}
+use borrow.Author.Tests.{le-ltb}
 use Rattle.laws.specs.Choice.{one}
 use Rattle.measure.specs.Pair.{drift_of}
 use Rattle.measure.specs.Sheet.{stay, plus_blocks, added}
 use Rattle.measure.specs.declared.Pair.{Pair}
-use Rattle.measure.specs.declared.Blocks.{Blocks}
 use Rattle.measure.specs.declared.Tally.{Tally}
 
--- d is the drift; u, v and w are what the three tests count
-module _ (t : Tally) (p : Pair) (d u v w lines endings drifted total changed : ℕ) (recorded replayed : Blocks)
-    (far : d ≡ drift_of p)
-    (x : u ≡ one p.ending)
-    (y : v ≡ one (ltb 0 d))
-    (z : w ≡ one p.changed)
-    (a : lines ≡ stay (t.lines + 1))
-    (b : endings ≡ stay (t.endings + u))
-    (e : drifted ≡ stay (t.drifted + v))
-    (f : total ≡ stay (t.total + d))
-    (g : changed ≡ stay (t.changed + w))
-    (old : recorded ≡ plus_blocks t.recorded p.recorded)
-    (new : replayed ≡ plus_blocks t.replayed p.replayed) where
-  pub add-farther :
-      t.farthest < d →
-      ◌≡◌ {A = Tally}
-      (record { lines = lines; endings = endings; drifted = drifted; farthest = d; line = lines; total = total; changed = changed; recorded = recorded; replayed = replayed })
-      (added t p)
-  unfolding added
-  add-farther h =
-      let m : max t.farthest d ≡ d = omega arith in
-      rw (← far, m, lt-ltb t.farthest d h, a, b, e, f, g, x, y, z, old, new)
+pub one-or-none : (b : Bool) → from_bool b ≡ one b
+one-or-none true = refl
+one-or-none false = refl
 
-  pub add-nearer :
-      d ≤ t.farthest →
-      ◌≡◌ {A = Tally}
-      (record { lines = lines; endings = endings; drifted = drifted; farthest = t.farthest; line = t.line; total = total; changed = changed; recorded = recorded; replayed = replayed })
-      (added t p)
-  unfolding added
-  add-nearer h =
-      let m : max t.farthest d ≡ t.farthest = omega arith in
-      rw (← far, m, le-ltb t.farthest d h, a, b, e, f, g, x, y, z, old, new)
+still : (x : ℕ) → x ≤ 18446744073709551615 → stay (x + 0) ≡ x
+still x h = omega arith
+
+pub added-plain :
+    (t : Tally) (p : Pair) →
+    p.ending ≡ None →
+    t.endings ≤ 18446744073709551615 →
+    t.drifted ≤ 18446744073709551615 →
+    t.total ≤ 18446744073709551615 →
+    t.recorded.fetched ≤ 18446744073709551615 →
+    t.recorded.back ≤ 18446744073709551615 →
+    t.replayed.fetched ≤ 18446744073709551615 →
+    t.replayed.back ≤ 18446744073709551615 →
+    added t p ≡ record t { lines = stay (t.lines + 1); changed = stay (t.changed + one p.changed) }
+unfolding added plus_blocks drift_of
+added-plain t p e a b c f g h i =
+    let m : max t.farthest 0 ≡ t.farthest = omega arith in
+    rw (e, m, le-ltb t.farthest 0 (omega arith), still t.endings a, still t.drifted b, still t.total c, still t.recorded.fetched f, still t.recorded.back g, still t.replayed.fetched h, still t.replayed.back i)

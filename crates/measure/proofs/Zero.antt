@@ -19,7 +19,8 @@ use Rattle.output.specs.Line.{alike_at, line_of}
 use Rattle.measure.specs.Pair.{same_from, same_bytes, other_pair, ending_pair, pair_ending, pair_lines, pair_of, one_pair, drift_of}
 use Rattle.measure.specs.Sheet.{places, pair_at, drifted, changed}
 use Rattle.output.specs.declared.Line.{Line}
-use Rattle.output.specs.declared.Line.TheVariants.{Stray, Plain, Ending}
+use Rattle.output.specs.declared.Line.TheVariants.{Plain, Ending}
+use Rattle.std.specs.Prelude.{Option, Some, None}
 use Rattle.output.specs.declared.Counts.{Counts}
 use Rattle.measure.specs.declared.Pair.{Pair}
 
@@ -69,13 +70,13 @@ module _ (a b : List ℕ) where
   clean-pick true k i l j h d = clean-ending k i l j h d
   clean-pick false k i l j h d = clean-other h
 
-  clean-lines : (x y : Line) → (pair_lines a x b y).changed ≡ false → drift_of (pair_lines a x b y) ≡ 0 → same_bytes a b ≡ true
+  clean-lines : (x y : Option Line) → (pair_lines a x b y).changed ≡ false → drift_of (pair_lines a x b y) ≡ 0 → same_bytes a b ≡ true
   unfolding pair_lines pair_ending
-  clean-lines (Ending at k i) (Ending there l j) h d = clean-pick (both (eqb at there) (alike_at a 0 b 0 at)) k i l j h d
-  clean-lines (Ending at k i) Plain h d = clean-other h
-  clean-lines (Ending at k i) Stray h d = clean-other h
-  clean-lines Plain y h d = clean-other h
-  clean-lines Stray y h d = clean-other h
+  clean-lines (Some (Ending x)) (Some (Ending y)) h d = clean-pick (both (eqb x.at y.at) (alike_at a 0 b 0 x.at)) x.counts x.next y.counts y.next h d
+  clean-lines (Some (Ending x)) (Some Plain) h d = clean-other h
+  clean-lines (Some (Ending x)) None h d = clean-other h
+  clean-lines (Some Plain) y h d = clean-other h
+  clean-lines None y h d = clean-other h
 
   pub clean-pair : (pair_of a b).changed ≡ false → drift_of (pair_of a b) ≡ 0 → a ≡ b
   unfolding pair_of
@@ -163,17 +164,17 @@ module _ (a : List ℕ) where
   still_pick true k i = self-still k i
   still_pick false k i = other-still
 
-  self-lines : (x : Line) → (pair_lines a x a x).changed ≡ false
+  self-lines : (x : Option Line) → (pair_lines a x a x).changed ≡ false
   unfolding pair_lines pair_ending
-  self-lines (Ending at k i) = self-pick (both (eqb at at) (alike_at a 0 a 0 at)) k i
-  self-lines Plain = self-other
-  self-lines Stray = self-other
+  self-lines (Some (Ending x)) = self-pick (both (eqb x.at x.at) (alike_at a 0 a 0 x.at)) x.counts x.next
+  self-lines (Some Plain) = self-other
+  self-lines None = self-other
 
-  still-lines : (x : Line) → drift_of (pair_lines a x a x) ≡ 0
+  still-lines : (x : Option Line) → drift_of (pair_lines a x a x) ≡ 0
   unfolding pair_lines pair_ending
-  still-lines (Ending at k i) = still_pick (both (eqb at at) (alike_at a 0 a 0 at)) k i
-  still-lines Plain = other-still
-  still-lines Stray = other-still
+  still-lines (Some (Ending x)) = still_pick (both (eqb x.at x.at) (alike_at a 0 a 0 x.at)) x.counts x.next
+  still-lines (Some Plain) = other-still
+  still-lines None = other-still
 
   pub self-clean : (pair_of a a).changed ≡ false
   unfolding pair_of

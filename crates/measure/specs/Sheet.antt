@@ -4,7 +4,8 @@ use Rattle.std.specs.Prelude.{ℕ, zero, suc, ◌+◌, min, max, List, [], lengt
 use Rattle.laws.specs.Choice.{pick, both, one}
 use Rattle.laws.specs.Scan.{first, count}
 use Rattle.laws.specs.Count.{sum, largest}
-use Rattle.measure.specs.Pair.{pair_of, one_pair, drift_of}
+use Rattle.measure.specs.Pair.{pair_of, one_pair, is_ending, recorded, replayed, drift_of}
+use Rattle.output.specs.Line.{shown}
 use Rattle.output.specs.declared.Counts.{Counts}
 use Rattle.measure.specs.declared.Pair.{Pair}
 use Rattle.measure.specs.declared.Blocks.{Blocks}
@@ -28,7 +29,7 @@ pair_at xs ys k = pick (both (ltb k (length xs)) (ltb k (length ys))) (pair_of (
 
 -- endings E: of the same kind and value in both
 unfoldable pub endings : (ℕ → Pair) → ℕ → ℕ
-endings pair n = count (λ k. (pair k).ending) n
+endings pair n = count (λ k. is_ending (pair k)) n
 
 -- drifted D: of those, with another count
 unfoldable pub drifted : (ℕ → Pair) → ℕ → ℕ
@@ -52,7 +53,7 @@ changed pair n = count (λ k. (pair k).changed) n
 
 -- blocks fetched and blocks written back, of what each place carries
 unfoldable pub blocks : (ℕ → Counts) → ℕ → Blocks
-blocks carried n = record { fetched = stay (sum (λ k. (carried k).fetched) n); back = stay (sum (λ k. (carried k).back) n) }
+blocks carried n = record { fetched = stay (sum (λ k. (shown (carried k).transfers).fetched) n); back = stay (sum (λ k. (shown (carried k).transfers).back) n) }
 
 -- the sheet: the number of places, the five, and the blocks of the record's endings and of the replay's
 unfoldable pub sheet : (ℕ → Pair) → ℕ → Tally
@@ -65,8 +66,8 @@ sheet pair n =
       line = stay (farthest_line pair n);
       total = stay (total pair n);
       changed = stay (changed pair n);
-      recorded = blocks (λ k. (pair k).recorded) n;
-      replayed = blocks (λ k. (pair k).replayed) n;
+      recorded = blocks (λ k. recorded (pair k)) n;
+      replayed = blocks (λ k. replayed (pair k)) n;
     }
 
 -- of a record and a replay, each the list of its lines
@@ -83,21 +84,21 @@ no_tally = record { lines = 0; endings = 0; drifted = 0; farthest = 0; line = 0;
 
 -- those of one more ending
 unfoldable pub plus_blocks : Blocks → Counts → Blocks
-plus_blocks b c = record { fetched = stay (b.fetched + c.fetched); back = stay (b.back + c.back) }
+plus_blocks b c = record { fetched = stay (b.fetched + (shown c.transfers).fetched); back = stay (b.back + (shown c.transfers).back) }
 
 -- one more place
 unfoldable pub added : Tally → Pair → Tally
 added t p =
     record {
       lines = stay (t.lines + 1);
-      endings = stay (t.endings + one p.ending);
+      endings = stay (t.endings + one (is_ending p));
       drifted = stay (t.drifted + one (ltb 0 (drift_of p)));
       farthest = max t.farthest (drift_of p);
       line = pick (ltb t.farthest (drift_of p)) (stay (t.lines + 1)) t.line;
       total = stay (t.total + drift_of p);
       changed = stay (t.changed + one p.changed);
-      recorded = plus_blocks t.recorded p.recorded;
-      replayed = plus_blocks t.replayed p.replayed;
+      recorded = plus_blocks t.recorded (recorded p);
+      replayed = plus_blocks t.replayed (replayed p);
     }
 
 -- one place after the other, n of them

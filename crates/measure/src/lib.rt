@@ -2,139 +2,124 @@
 // No public function has a `requires`. A line is its bytes, newline apart.
 #![tactic(auto)]
 
-ghost use Rattle.std.specs.Prelude.{◌≡◌, ◌+◌, ◌-◌};
-ghost use Rattle.laws.specs.Choice.{one};
-ghost use Rattle.measure.specs.Pair.{same_from, same_bytes, no_counts, other_pair, ending_pair, pair_ending, pair_of, one_pair, drift_of, other_transfers};
-ghost use Rattle.measure.specs.Sheet.{stay, no_blocks, plus_blocks, no_tally, added};
+ghost use Rattle.std.specs.Prelude.{◌≡◌};
+ghost use Rattle.measure.specs.Pair.{same_from, other_pair, ending_pair, pair_of, one_pair, drift_of, differing};
+ghost use Rattle.measure.specs.Sheet.{plus_blocks, no_tally, added};
 
-use output::{Counts, Line};
+use output::{Counts, Ending, Line, Transfers};
+
+// What an ending carries in the record and in the replay.
+#[derive(Clone, Copy)]
+pub struct Carried {
+    pub recorded: Counts,
+    pub replayed: Counts,
+}
 
 // One place of the record and of the replay compared.
 #[derive(Clone, Copy)]
 pub struct Pair {
-    // it is an ending of the same kind and value in both
-    pub ending: bool,
-    // what it carries in the record and in the replay; nothing where it is none
-    pub recorded: Counts,
-    pub replayed: Counts,
+    // what it carries, where it is an ending of the same kind and value in both
+    pub ending: Option<Carried>,
     // it differs in any other way, or only one has it
     pub changed: bool,
 }
 
 // Whether a from i on and b from j on are the same bytes.
+#[tactic(auto, using(std::proofs::lemmas::Bool::Decides::nat_tests), unfolding(crate::specs::Pair::same_from, laws::specs::Choice::both))]
 fn same_from(a: &[u8], i: usize, b: &[u8], j: usize) -> bool
     ensures { result ≡ same_from a.now i b.now j }
 {
-    let m = left(a.len(), i);
-    let n = left(b.len(), j);
-    if m == n {
-        return output::alike(a, i, b, j, m);
-    }
-    false
+    let n = a.len().saturating_sub(i);
+    n == b.len().saturating_sub(j) && output::alike(a, i, b, j, n)
 }
 
-// x less y, 0 where y is more.
-fn left(x: usize, y: usize) -> usize
-    ensures { result ≡ x - y }
-{
-    if x < y { 0 } else { x - y }
-}
-
-fn same_bytes(a: &[u8], b: &[u8]) -> bool
-    ensures { result ≡ same_bytes a.now b.now }
-{
-    same_from(a, 0, b, 0)
-}
-
-fn no_counts() -> Counts
-    ensures { result ≡ no_counts }
-{
-    Counts {
-        turns: 0,
-        told: false,
-        fetched: 0,
-        back: 0,
-    }
-}
-
+// No ending of the same kind and value in both.
+#[tactic(auto, using(std::proofs::lemmas::Bool::Decides::nat_tests, crate::proofs::Pairs::same_bytes_is), unfolding(crate::specs::Pair::other_pair))]
 fn other_pair(a: &[u8], b: &[u8]) -> Pair
     ensures { result ≡ other_pair a.now b.now }
 {
-    let same = same_bytes(a, b);
     Pair {
-        ending: false,
-        recorded: no_counts(),
-        replayed: no_counts(),
+        ending: None,
+        changed: a != b,
+    }
+}
+
+// An ending of the same kind and value in both.
+#[tactic(auto, using(std::proofs::lemmas::Bool::Decides::nat_tests, crate::proofs::Pairs::same_bytes_is), unfolding(crate::specs::Pair::ending_pair))]
+fn ending_pair(a: &[u8], x: Ending, b: &[u8], y: Ending) -> Pair
+    ensures { result ≡ ending_pair a.now x.counts x.next b.now y.counts y.next }
+{
+    let same = if x.counts.turns == y.counts.turns {
+        a == b
+    } else {
+        same_from(a, x.next, b, y.next)
+    };
+    let carried = Carried {
+        recorded: x.counts,
+        replayed: y.counts,
+    };
+    Pair {
+        ending: Some(carried),
         changed: !same,
     }
 }
 
-fn ending_pair(a: &[u8], k: Counts, i: usize, b: &[u8], l: Counts, j: usize) -> Pair
-    ensures { result ≡ ending_pair a.now k i b.now l j }
-{
-    if k.turns == l.turns {
-        let same = same_bytes(a, b);
-        return Pair {
-            ending: true,
-            recorded: k,
-            replayed: l,
-            changed: !same,
-        };
-    }
-    let same = same_from(a, i, b, j);
-    Pair {
-        ending: true,
-        recorded: k,
-        replayed: l,
-        changed: !same,
-    }
-}
-
-// The record's line is an ending.
-fn pair_ending(a: &[u8], at: usize, k: Counts, i: usize, b: &[u8], y: Line) -> Pair
-    ensures { result ≡ pair_ending a.now at k i b.now y }
-{
-    match y {
-        Line::Ending {
-            at: there,
-            counts: l,
-            next: j,
-        } => {
-            if at != there {
-                return other_pair(a, b);
-            }
-            if output::alike(a, 0, b, 0, at) {
-                return ending_pair(a, k, i, b, l, j);
-            }
-            other_pair(a, b)
-        }
-        Line::Plain => other_pair(a, b),
-        Line::Stray => other_pair(a, b),
-    }
-}
-
-// A line of the record and the line at the same place of the replay.
+// A line of the record and the line at the same place of the replay. Endings are of the same kind and value where all bytes before their counts are the same.
+#[tactic(auto, using(std::proofs::lemmas::Bool::Decides::nat_tests), unfolding(crate::specs::Pair::pair_of, crate::specs::Pair::pair_lines, crate::specs::Pair::pair_ending, laws::specs::Choice::both))]
 pub fn compare(recorded: &[u8], replayed: &[u8]) -> Pair
     ensures { result ≡ pair_of recorded.now replayed.now }
 {
-    let x = output::read(recorded);
-    let y = output::read(replayed);
-    match x {
-        Line::Ending { at, counts, next } => pair_ending(recorded, at, counts, next, replayed, y),
-        Line::Plain => other_pair(recorded, replayed),
-        Line::Stray => other_pair(recorded, replayed),
+    match (output::read(recorded), output::read(replayed)) {
+        (Some(Line::Ending(x)), Some(Line::Ending(y)))
+            if x.at == y.at && output::alike(recorded, 0, replayed, 0, x.at) => {
+            ending_pair(recorded, x, replayed, y)
+        }
+        _ => other_pair(recorded, replayed),
+    }
+}
+
+impl Pair {
+    // A place where only one of the two has a line.
+    pub fn only_one() -> Pair
+        ensures { result ≡ one_pair }
+    {
+        Pair {
+            ending: None,
+            changed: true,
+        }
+    }
+
+    // How far its turn counts are apart, up or down; 0 where it is no ending of the same kind and value.
+    #[tactic(auto, using(std::proofs::lemmas::Bool::Decides::nat_tests), unfolding(crate::specs::Pair::drift_of))]
+    pub fn drift(self) -> u32
+        ensures { result ≡ drift_of self }
+    {
+        match self.ending {
+            Some(e) => e.recorded.turns.abs_diff(e.replayed.turns),
+            None => 0,
+        }
+    }
+
+    // The transfers that the record and the replay tell, where both tell them and one of the two sums is another.
+    #[tactic(auto, using(std::proofs::lemmas::Bool::Decides::nat_tests), unfolding(crate::specs::Pair::differing, crate::specs::Pair::other_transfers, laws::specs::Choice::both))]
+    pub fn other_transfers(self) -> Option<(Transfers, Transfers)>
+        ensures { result ≡ differing self }
+    {
+        let e = self.ending?;
+        let (t, u) = (e.recorded.transfers?, e.replayed.transfers?);
+        if t != u { Some((t, u)) } else { None }
     }
 }
 
 // Blocks fetched and blocks written back, of many endings.
-#[derive(Clone, Copy)]
+#[derive(Clone, Copy, Default)]
 pub struct Blocks {
     pub fetched: u64,
     pub back: u64,
 }
 
 // The sheet's numbers, and how many places they are of. Each stays at 2^64 - 1 once there.
-#[derive(Clone, Copy)]
+#[derive(Clone, Copy, Default)]
 pub struct Tally {
     pub lines: u64,
     pub endings: u64,
@@ -147,85 +132,18 @@ pub struct Tally {
     pub replayed: Blocks,
 }
 
-// x + d, which stays at 2^64 - 1 once there.
-fn more(x: u64, d: u64) -> u64
-    ensures { result ≡ stay (x + d) }
-{
-    if u64::MAX - x < d {
-        return u64::MAX;
-    }
-    x + d
-}
-
-fn counted(b: bool) -> u64
-    ensures { result ≡ one b }
-{
-    if b { 1 } else { 0 }
-}
-
-impl Pair {
-    // A place where only one of the two has a line.
-    pub fn only_one() -> Pair
-        ensures { result ≡ one_pair }
-    {
-        Pair {
-            ending: false,
-            recorded: no_counts(),
-            replayed: no_counts(),
-            changed: true,
-        }
-    }
-
-    // How far its turn counts are apart, up or down; 0 where it is no ending of the same kind and value.
-    pub fn drift(self) -> u32
-        ensures { result ≡ drift_of self }
-    {
-        if self.ending {
-            return apart(self.recorded.turns, self.replayed.turns);
-        }
-        0
-    }
-
-    // Whether both tell transfers, and one of the two sums is another.
-    pub fn other_transfers(self) -> bool
-        ensures { result ≡ other_transfers self }
-    {
-        let fetched = self.recorded.fetched == self.replayed.fetched;
-        let back = self.recorded.back == self.replayed.back;
-        let same = laws::both(fetched, back);
-        laws::both(laws::both(self.recorded.told, self.replayed.told), !same)
-    }
-}
-
-fn apart(x: u32, y: u32) -> u32
-    ensures { result ≡ (x - y) + (y - x) }
-{
-    if x < y { y - x } else { x - y }
-}
-
-fn long(x: u32) -> u64
-    ensures { result ≡ x }
-{
-    x as u64
-}
-
 impl Blocks {
-    fn none() -> Blocks
-        ensures { result ≡ no_blocks }
-    {
-        Blocks {
-            fetched: 0,
-            back: 0,
-        }
-    }
-
     // Those of one more ending.
+    #[tactic(auto, using(std::proofs::lemmas::Bool::Decides::nat_tests), unfolding(crate::specs::Sheet::plus_blocks))]
     fn plus(self, counts: Counts) -> Blocks
         ensures { result ≡ plus_blocks self counts }
     {
-        Blocks {
-            fetched: more(self.fetched, long(counts.fetched)),
-            back: more(self.back, long(counts.back)),
+        match counts.transfers {
+            Some(t) => Blocks {
+                fetched: self.fetched.saturating_add(u64::from(t.fetched)),
+                back: self.back.saturating_add(u64::from(t.back)),
+            },
+            None => self,
         }
     }
 }
@@ -235,54 +153,39 @@ impl Tally {
     pub fn new() -> Tally
         ensures { result ≡ no_tally }
     {
-        Tally {
-            lines: 0,
-            endings: 0,
-            drifted: 0,
-            farthest: 0,
-            line: 0,
-            total: 0,
-            changed: 0,
-            recorded: Blocks::none(),
-            replayed: Blocks::none(),
-        }
+        Tally::default()
     }
 
     // One more place.
+    #[tactic(auto, using(std::proofs::lemmas::Bool::Decides::nat_tests), unfolding(crate::specs::Sheet::added))]
     pub fn add(self, pair: Pair) -> Tally
         ensures { result ≡ added self pair }
     {
-        let recorded = self.recorded.plus(pair.recorded);
-        let replayed = self.replayed.plus(pair.replayed);
-        let d = long(pair.drift());
-        let lines = more(self.lines, 1);
-        let endings = more(self.endings, counted(pair.ending));
-        let drifted = more(self.drifted, counted(0 < d));
-        let total = more(self.total, d);
-        let changed = more(self.changed, counted(pair.changed));
-        if self.farthest < d {
+        let lines = self.lines.saturating_add(1);
+        let changed = self.changed.saturating_add(u64::from(pair.changed));
+        let Some(e) = pair.ending else {
             return Tally {
                 lines,
-                endings,
-                drifted,
-                farthest: d,
-                line: lines,
-                total,
                 changed,
-                recorded,
-                replayed,
+                ..self
             };
-        }
+        };
+        let d = u64::from(pair.drift());
+        let (farthest, line) = if self.farthest < d {
+            (d, lines)
+        } else {
+            (self.farthest, self.line)
+        };
         Tally {
             lines,
-            endings,
-            drifted,
-            farthest: self.farthest,
-            line: self.line,
-            total,
+            endings: self.endings.saturating_add(1),
+            drifted: self.drifted.saturating_add(u64::from(0 < d)),
+            farthest,
+            line,
+            total: self.total.saturating_add(d),
             changed,
-            recorded,
-            replayed,
+            recorded: self.recorded.plus(e.recorded),
+            replayed: self.replayed.plus(e.replayed),
         }
     }
 }

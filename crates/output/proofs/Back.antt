@@ -16,15 +16,14 @@ use Rattle.laws.proofs.Choice.{both_true, both-false-left, both-false-right}
 use Rattle.laws.proofs.Splice.{lt-or-ge}
 use Rattle.laws.proofs.Scan.{all-is}
 use Rattle.tracker.specs.Answer.{Said, ok, wait, moved, read, done, same, no}
-use Rattle.tracker.specs.declared.Transfers.{Transfers}
+use Rattle.tracker.specs.declared.Transfers.{Transfers as Sums}
 use Rattle.wording.specs.Words.{space, ok_word, wait_word, moved_word, no_word, turns_word, done_word, same_word, read_word, in_word, out_word}
 use Rattle.wording.specs.Text.{digit_text, digits, places, decimal, hex, turns, said_text, Narrow, transfers_text, gains, Few, answer_line}
 use Rattle.wording.proofs.Numbers.{pow_pos, rest_more, length_digits, length-decimal, places-high, places-low, places-some}
-use Rattle.output.specs.Line.{has_at, ends_at, digit_of, digit_at, digits_from, number_at, last_of, hex_of, value_at, closes_at, plain_at, reads_at, count_at, number_is, out_of, rest_at, ending_with, ending_of, answer_at, after_number, line_of, ending_at, line_for}
-use Rattle.output.specs.declared.Number.TheVariants.{Is}
-use Rattle.output.specs.declared.Tail.TheVariants.{Told}
+use Rattle.output.specs.Line.{has_at, ends_at, digit_of, digit_at, counted, digits_from, number_at, last_of, hex_of, value_at, closes_at, plain_at, reads_at, count_at, number_is, out_of, transfers_at, rest_at, ending_with, ending_of, answer_at, after_number, line_of, ending_at, line_for}
 use Rattle.output.specs.declared.Line.TheVariants.{Plain}
 use Rattle.output.proofs.Lines.{alike_all, alike-miss, digits-stop, digits-go}
+use Rattle.std.specs.Prelude.{Some}
 
 -- ## Words
 
@@ -100,7 +99,7 @@ module _ (v : ℕ) (s t : List ℕ) where
       digit-there s at (v / 10 ^ i % 10) (omega (arith, length-is s p _ at q l)) g (below-10 (v / 10 ^ i))
 
   digits-run : (j f at : ℕ) (p : List ℕ) → s ≡ p ++ (digits 10 j v ++ t) → length p ≡ at → j ≤ f → digit_at s (at + j) ≡ 10
-      → digits_from f s at (min (v / 10 ^ j) 65536) ≡ Is (min v 65536) (at + j)
+      → digits_from f s at (min (v / 10 ^ j) 65536) ≡ counted (min v 65536) (at + j)
   digits-run zero f at p e l h n =
       let z : at + 0 ≡ at = omega arith in
       let o : v / 10 ^ 0 ≡ v = omega arith in
@@ -135,16 +134,16 @@ top_digit v i low high e =
 module _ (v : ℕ) (s p t : List ℕ) (at : ℕ) (l : length p ≡ at) where
   -- w digits, the first of them no zero before another
   digits-back : (w : ℕ) → s ≡ p ++ (digits 10 w v ++ t) → 0 < w → v < 10 ^ w → ((i : ℕ) → w ≡ suc (suc i) → 10 ^ suc i ≤ v) → digit_at s (at + w) ≡ 10
-      → number_at s at ≡ Is (min v 65536) (at + w)
+      → number_at s at ≡ Some (counted (min v 65536) (at + w))
   unfolding number_at
   digits-back zero e h high low n = absurd (omega arith)
   digits-back (suc i) e h high low n =
       let d : digit_at s at ≡ v / 10 ^ i % 10 = first-digit v s t i at p e l in
       let o : (v / 10 ^ suc i) ≡ 0 = div-eq_of_lt high in
       let m : length s ≡ at + (suc i + length t) = omega (arith, length-is s p (digits 10 (suc i) v ++ t) at e l, length-append (digits 10 (suc i) v) t, length_digits 10 (suc i) v) in
-      let r : digits_from (length s - at) s at 0 ≡ Is (min v 65536) (at + suc i) =
+      let r : digits_from (length s - at) s at 0 ≡ counted (min v 65536) (at + suc i) =
       rw o at (digits-run v s t (suc i) (length s - at) at p e l (omega arith) n) in
-      rw (d, ne_eqb (v / 10 ^ i % 10) 10 (ten (v / 10 ^ i)), front i e high low n) r
+      rw (d, ne_eqb (v / 10 ^ i % 10) 10 (ten (v / 10 ^ i)), front i e high low n, r) refl
     where
       ten : (y : ℕ) → y % 10 ≡ 10 → ⊥
       ten y q = omega arith
@@ -154,18 +153,18 @@ module _ (v : ℕ) (s p t : List ℕ) (at : ℕ) (l : length p ≡ at) where
       front zero e high low n = both-false-right _ _ (rw n refl)
       front (suc j) e high low n = both-false-left _ _ (ne_eqb _ 0 (top_digit v j (low j refl) high))
 
-  pub number-back : s ≡ p ++ (decimal v ++ t) → digit_at s (at + places v) ≡ 10 → number_at s at ≡ Is (min v 65536) (at + places v)
+  pub number-back : s ≡ p ++ (decimal v ++ t) → digit_at s (at + places v) ≡ 10 → number_at s at ≡ Some (counted (min v 65536) (at + places v))
   unfolding decimal
   number-back e n = digits-back (places v) e (places-some v) (places-high v) (places-low v) n
 
 -- a number with which the line ends
-last-back : (v : ℕ) (s p : List ℕ) (at : ℕ) → length p ≡ at → s ≡ p ++ decimal v → number_at s at ≡ Is (min v 65536) (at + places v)
+last-back : (v : ℕ) (s p : List ℕ) (at : ℕ) → length p ≡ at → s ≡ p ++ decimal v → number_at s at ≡ Some (counted (min v 65536) (at + places v))
 last-back v s p at l e =
     let q : s ≡ p ++ (decimal v ++ []) = e ∙ ap (λ (x : List ℕ). p ++ x) (sym (append-nil (decimal v))) in
     number-back v s p [] at l q (digit-end s (at + places v) (omega (arith, length-is s p (decimal v) at e l, length-decimal v)))
 
 -- a number with a space after it
-space-back : (v : ℕ) (s p t : List ℕ) (at : ℕ) → length p ≡ at → s ≡ p ++ (decimal v ++ (32 ∷ t)) → number_at s at ≡ Is (min v 65536) (at + places v)
+space-back : (v : ℕ) (s p t : List ℕ) (at : ℕ) → length p ≡ at → s ≡ p ++ (decimal v ++ (32 ∷ t)) → number_at s at ≡ Some (counted (min v 65536) (at + places v))
 space-back v s p t at l e =
     let q : s ≡ (p ++ decimal v) ++ (32 ∷ t) = e ∙ sym (append_assoc p (decimal v) (32 ∷ t)) in
     let m : length (p ++ decimal v) ≡ at + places v = omega (arith, length-append p (decimal v), length-decimal v) in
@@ -189,12 +188,12 @@ module _ (s p : List ℕ) (at i o : ℕ) (l : length p ≡ at) (e : s ≡ p ++ (
   past-out : length (((p ++ in_word) ++ decimal i) ++ out_word) ≡ at + 4 + places i + 5
   past-out = omega (arith, past-fetched, length-append ((p ++ in_word) ++ decimal i) out_word)
 
-  fetched-back : number_at s (at + 4) ≡ Is i (at + 4 + places i)
+  fetched-back : number_at s (at + 4) ≡ Some (counted i (at + 4 + places i))
   fetched-back =
       let q : min i 65536 ≡ i = omega arith in
       rw q at (space-back i s (p ++ in_word) _ (at + 4) past-in (e ∙ sym (append_assoc p in_word (decimal i ++ (out_word ++ decimal o)))))
 
-  back-back : number_at s (at + 4 + places i + 5) ≡ Is o (at + 4 + places i + 5 + places o)
+  back-back : number_at s (at + 4 + places i + 5) ≡ Some (counted o (at + 4 + places i + 5 + places o))
   back-back =
       let q : min o 65536 ≡ o = omega arith in
       rw q at (last-back o s (((p ++ in_word) ++ decimal i) ++ out_word) (at + 4 + places i + 5) past-out (to_out ∙ sym (append_assoc ((p ++ in_word) ++ decimal i) out_word (decimal o))))
@@ -206,15 +205,15 @@ module _ (s p : List ℕ) (at i o : ℕ) (l : length p ≡ at) (e : s ≡ p ++ (
       both_true _ _ (word_at s ((p ++ in_word) ++ decimal i) out_word (decimal o) (at + 4 + places i) to_out past-fetched)
       (rw back-back (both_true _ _ (lt-ltb o 65536 (omega arith)) (eq-eqb (at + 4 + places i + 5 + places o) (length s) n)))
 
-  out-back : out_of s (Is i (at + 4 + places i)) ≡ Told i o
+  out-back : out_of s (Some (counted i (at + 4 + places i))) ≡ Some (record { fetched = i; back = o })
   unfolding out_of number_is both
   out-back = rw (lt-ltb i 65536 (omega arith), closes-back, back-back) refl
 
-  rest_back : rest_at s at ≡ Told i o
-  unfolding rest_at
+  rest_back : rest_at s at ≡ Some (Some (record { fetched = i; back = o }))
+  unfolding rest_at transfers_at
   rest_back =
       let n : (at ≡ length s) → ⊥ = λ q. omega (arith, length-is s p (in_word ++ (decimal i ++ (out_word ++ decimal o))) at e l) in
-      rw (ne_eqb at (length s) n, word_at s p in_word (decimal i ++ (out_word ++ decimal o)) at e l, fetched-back) out-back
+      rw (ne_eqb at (length s) n, word_at s p in_word (decimal i ++ (out_word ++ decimal o)) at e l, fetched-back, out-back) refl
 
 -- ## A value
 
@@ -250,12 +249,12 @@ value-back v s p t at l e =
 -- ## A line
 
 -- whatever is said, it is read from behind the line number and its space
-module _ (n : ℕ) (said : Said) (t : Transfers) where
+module _ (n : ℕ) (said : Said) (t : Sums) where
   line-parts : answer_line n said t ≡ decimal n ++ (space ++ (said_text said ++ gains said t))
   unfolding answer_line
   line-parts = refl
 
-  line-number : number_at (answer_line n said t) 0 ≡ Is (min n 65536) (places n)
+  line-number : number_at (answer_line n said t) 0 ≡ Some (counted (min n 65536) (places n))
   line-number =
       let c : 0 + places n ≡ places n = omega arith in
       rw c at (space-back n (answer_line n said t) [] (said_text said ++ gains said t) 0 refl line-parts)
@@ -278,7 +277,7 @@ module _ (s f : List ℕ) (at : ℕ) (l : length f ≡ at) where
       both_true _ _ (word_at s f w [] at q l) (eq-eqb (at + length w) (length s) (sym (length-is s f w at e l)))
 
   -- `ok`, `wait`, `moved`, `no C`
-  answer-plain : plain_at s at ≡ true → answer_at s at ≡ Plain
+  answer-plain : plain_at s at ≡ true → answer_at s at ≡ Some Plain
   unfolding answer_at
   answer-plain h = rw h refl
 
@@ -305,7 +304,7 @@ module _ (s f : List ℕ) (at : ℕ) (l : length f ≡ at) where
       let q : s ≡ (f ++ no_word) ++ decimal c = e ∙ sym (append_assoc f no_word (decimal c)) in
       let m : length (f ++ no_word) ≡ at + 3 = omega (arith, length-append f no_word) in
       let i : min c 65536 ≡ c = omega arith in
-      let r : number_at s (at + 3) ≡ Is c (at + 3 + places c) = rw i at (last-back c s (f ++ no_word) (at + 3) m q) in
+      let r : number_at s (at + 3) ≡ Some (counted c (at + 3 + places c)) = rw i at (last-back c s (f ++ no_word) (at + 3) m q) in
       let n : at + 3 + places c ≡ length s = omega (arith, length-is s (f ++ no_word) (decimal c) (at + 3) q m, length-decimal c) in
       rw (not-ends s at ok_word (other_at s at ok_word 110 b (omega arith) (λ (q : 110 ≡ 111). omega arith)), not-ends s at wait_word (other_at s at wait_word 110 b (omega arith) (λ (q : 110 ≡ 119). omega arith)), not-ends s at moved_word (other_at s at moved_word 110 b (omega arith) (λ (q : 110 ≡ 109). omega arith)))
       (both_true _ _ (word_at s f no_word (decimal c) at e l) (rw r (both_true _ _ (lt-ltb c 65536 h) (eq-eqb (at + 3 + places c) (length s) n))))
@@ -316,14 +315,14 @@ module _ (s f : List ℕ) (at : ℕ) (l : length f ≡ at) where
   not_plain b e o w m n =
       rw (not-ends s at ok_word (other_at s at ok_word b e (omega arith) o), not-ends s at wait_word (other_at s at wait_word b e (omega arith) w), not-ends s at moved_word (other_at s at moved_word b e (omega arith) m), not-closes s at no_word (other_at s at no_word b e (omega arith) n)) refl
 
-  ending-back : (c k : ℕ) (t : Transfers) (p : List ℕ) → plain_at s at ≡ false → count_at s at ≡ c → 0 < c → length p ≡ c → s ≡ p ++ (decimal k ++ transfers_text t) → k < 65536 → Few t
-      → answer_at s at ≡ ending_at c k t
+  ending-back : (c k : ℕ) (t : Sums) (p : List ℕ) → plain_at s at ≡ false → count_at s at ≡ c → 0 < c → length p ≡ c → s ≡ p ++ (decimal k ++ transfers_text t) → k < 65536 → Few t
+      → answer_at s at ≡ Some (ending_at c k t)
   unfolding answer_at ending_of ending_with transfers_text
   ending-back c k t p h d z m e b w =
       let i : min k 65536 ≡ k = omega arith in
-      let r : number_at s c ≡ Is k (c + places k) = rw i at (space-back k s p _ c m e) in
+      let r : number_at s c ≡ Some (counted k (c + places k)) = rw i at (space-back k s p _ c m e) in
       let n : length (p ++ decimal k) ≡ c + places k = omega (arith, length-append p (decimal k), length-decimal k) in
-      let q : rest_at s (c + places k) ≡ Told t.fetched t.back =
+      let q : rest_at s (c + places k) ≡ Some (Some (record { fetched = t.fetched; back = t.back })) =
       rest_back s (p ++ decimal k) (c + places k) t.fetched t.back n (e ∙ sym (append_assoc p (decimal k) (transfers_text t))) w.0 w.1 in
       rw (h, d, ne_eqb c 0 (λ (q : c ≡ 0). omega arith), r, lt-ltb k 65536 b, q) refl
 
@@ -331,7 +330,7 @@ module _ (s f : List ℕ) (at : ℕ) (l : length f ≡ at) where
   unfolding count_at either
   done-count h = rw h refl
 
-  done-back : (k : ℕ) (t : Transfers) → s ≡ f ++ ((done_word ++ turns_word) ++ (decimal k ++ transfers_text t)) → k < 65536 → Few t → answer_at s at ≡ ending_at (at + 11) k t
+  done-back : (k : ℕ) (t : Sums) → s ≡ f ++ ((done_word ++ turns_word) ++ (decimal k ++ transfers_text t)) → k < 65536 → Few t → answer_at s at ≡ Some (ending_at (at + 11) k t)
   done-back k t e b w =
       let g : get_or s at 0 ≡ 100 = byte_at ((done_word ++ turns_word) ++ (decimal k ++ transfers_text t)) e in
       let h : has_at s at (done_word ++ turns_word) ≡ true = word_at s f (done_word ++ turns_word) (decimal k ++ transfers_text t) at e l in
@@ -344,7 +343,7 @@ module _ (s f : List ℕ) (at : ℕ) (l : length f ≡ at) where
   unfolding count_at either
   same_count d h = rw (d, h) refl
 
-  same_back : (k : ℕ) (t : Transfers) → s ≡ f ++ ((same_word ++ turns_word) ++ (decimal k ++ transfers_text t)) → k < 65536 → Few t → answer_at s at ≡ ending_at (at + 11) k t
+  same_back : (k : ℕ) (t : Sums) → s ≡ f ++ ((same_word ++ turns_word) ++ (decimal k ++ transfers_text t)) → k < 65536 → Few t → answer_at s at ≡ Some (ending_at (at + 11) k t)
   same_back k t e b w =
       let g : get_or s at 0 ≡ 115 = byte_at ((same_word ++ turns_word) ++ (decimal k ++ transfers_text t)) e in
       let h : has_at s at (same_word ++ turns_word) ≡ true = word_at s f (same_word ++ turns_word) (decimal k ++ transfers_text t) at e l in
@@ -359,7 +358,7 @@ module _ (s f : List ℕ) (at : ℕ) (l : length f ≡ at) where
   unfolding count_at reads_at either both
   read_count d c h x t = rw (d, c, h, x, t) refl
 
-  read_back : (v k : ℕ) (t : Transfers) → s ≡ f ++ (read_word ++ (hex v ++ (turns_word ++ (decimal k ++ transfers_text t)))) → k < 65536 → Few t → answer_at s at ≡ ending_at (at + 20) k t
+  read_back : (v k : ℕ) (t : Sums) → s ≡ f ++ (read_word ++ (hex v ++ (turns_word ++ (decimal k ++ transfers_text t)))) → k < 65536 → Few t → answer_at s at ≡ Some (ending_at (at + 20) k t)
   read_back v k t e b w =
       let g : get_or s at 0 ≡ 114 = byte_at (read_word ++ (hex v ++ (turns_word ++ (decimal k ++ transfers_text t)))) e in
       let h : has_at s at read_word ≡ true = word_at s f read_word (hex v ++ (turns_word ++ (decimal k ++ transfers_text t))) at e l in
@@ -378,7 +377,7 @@ module _ (s f : List ℕ) (at : ℕ) (l : length f ≡ at) where
       (read_count d c h x u) (omega arith) m3 e3 b w
 
 -- each answer, behind a line number and its space
-answer_back : (n : ℕ) (said : Said) (t : Transfers) (s f : List ℕ) → length f ≡ places n + 1 → s ≡ f ++ (said_text said ++ gains said t) → Narrow said → Few t → answer_at s (places n + 1) ≡ line_for n said t
+answer_back : (n : ℕ) (said : Said) (t : Sums) (s f : List ℕ) → length f ≡ places n + 1 → s ≡ f ++ (said_text said ++ gains said t) → Narrow said → Few t → answer_at s (places n + 1) ≡ Some (line_for n said t)
 unfolding said_text gains turns line_for
 answer_back n ok t s f l e h w = answer-plain s f (places n + 1) l (ok-back s f (places n + 1) l e)
 answer_back n wait t s f l e h w = answer-plain s f (places n + 1) l (wait-back s f (places n + 1) l e)
@@ -391,7 +390,7 @@ answer_back n (no c) t s f l e h w =
     answer-plain s f (places n + 1) l (no-back s f (places n + 1) l c (e ∙ ap (λ (x : List ℕ). f ++ (no_word ++ x)) (append-nil (decimal c))) (omega arith))
 
 -- each line that replay can print is read as what it is
-pub reads-back : (n : ℕ) (said : Said) (t : Transfers) → Narrow said → Few t → line_of (answer_line n said t) ≡ line_for n said t
+pub reads-back : (n : ℕ) (said : Said) (t : Sums) → Narrow said → Few t → line_of (answer_line n said t) ≡ Some (line_for n said t)
 reads-back n said t h w =
     let l : length (decimal n ++ space) ≡ places n + 1 = omega (arith, length-append (decimal n) space, length-decimal n) in
     line-answer n said t

@@ -1,26 +1,18 @@
 -- Laws of a line: bytes that are alike, a value, the digits of a number, and what a word that stands at a place says of the line's length.
-use Prim.Native.Nat.{ℕ, zero, suc, ◌+◌, ◌*◌, ◌<◌, ◌≤◌, min}
-use mathlib.Core.Path.{◌≡◌, refl, sym, ◌∙◌}
-use mathlib.Core.Bool.{Bool, true, false}
-use mathlib.Core.List.{List}
-use mathlib.Core.Logic.{⊎_elim}
-use native.Mathlib.Nat.{eq-or-lt_of_le}
-use native.Mathlib.Numerals.{add-one}
-use native.Mathlib.Omega.{arith}
-use borrow.Author.Tests.{lt-ltb, le-ltb, le-leb, lt-leb, leb-true, ne_eqb}
-use lib.Dec.{eqb, leb, ltb}
-use lib.ListN.{length, get_or}
+use Rattle.std.proofs.Common.{◌↔◌, ℕ, zero, suc, ◌+◌, ◌*◌, min, ◌<◌, ◌≤◌, ◌≡◌, refl, sym, ap, ◌∙◌, Bool, true, false, Some, None, is_some, inl, inr, ◌⊎◌, List, length, get_or, take, drop, add-one, arith}
+use Rattle.std.specs.Bool.{Decides, then_some}
+use Rattle.std.specs.Str.{bytes_eq}
+use Rattle.std.proofs.lemmas.List.{get_or-take, get_or-drop, length-take, length-drop, take_all, ext_get_or, get_or_default}
+use Rattle.std.specs.List.{AllPass}
+use Rattle.std.proofs.lemmas.Bool.Decides.{Decides-eqb}
+use Rattle.std.proofs.lemmas.Slice.Eq.{slice_eq-Decides}
+use borrow.Author.Tests.{le-leb, lt-leb, leb-true, eq-eqb, ne_eqb, eqb-true}
+use lib.Dec.{eqb, leb}
 use Rattle.laws.specs.Choice.{both}
 use Rattle.laws.specs.Scan.{all}
-use Rattle.laws.proofs.Choice.{both-false-right, both_left, both_right}
-use Rattle.laws.proofs.Scan.{all-fails}
-use Rattle.wording.specs.Words.{space, read_word, turns_word, out_word}
-use Rattle.output.specs.Line.{alike_at, has_at, hex_of, value_at, digit_at, digits_from, number_at, reads_at, closes_at, number_is, out_of, rest_at, counts, ending_with, ending_of, answer_at, after_number}
-use Rattle.output.specs.declared.Number.{Number}
-use Rattle.output.specs.declared.Number.TheVariants.{Is, Nothing}
-use Rattle.output.specs.declared.Tail.{Tail}
-use Rattle.output.specs.declared.Tail.TheVariants.{Broken, Told}
-use Rattle.output.specs.declared.Line.TheVariants.{Stray, Ending}
+use Rattle.laws.proofs.Choice.{both-false-right, both_left, both_right, same_truth, true-or-false}
+use Rattle.laws.proofs.Scan.{all-fails, all-at, all-is}
+use Rattle.output.specs.Line.{alike_at, has_at, after_at, hex_of, value_at, digit_at, counted, digits_from, closes_at, closing_at}
 
 module _ (a : List ℕ) (i : ℕ) (b : List ℕ) (j n : ℕ) where
   pub alike-short : length a < i + n → false ≡ alike_at a i b j n
@@ -46,6 +38,62 @@ module _ (a : List ℕ) (i : ℕ) (b : List ℕ) (j n : ℕ) where
   unfolding alike_at
   alike-fits h = leb-true (i + n) (length a) (both_left (leb (i + n) (length a)) (leb (j + n) (length b)) (both_left (both (leb (i + n) (length a)) (leb (j + n) (length b))) (all (λ k. eqb (get_or a (i + k) 0) (get_or b (j + k) 0)) n) h))
 
+  pub alike-same : alike_at a i b j n ≡ true → (k : ℕ) → k < n → get_or a (i + k) 0 ≡ get_or b (j + k) 0
+  unfolding alike_at
+  alike-same h k l =
+      eqb-true _ _ (all-at (λ k. eqb (get_or a (i + k) 0) (get_or b (j + k) 0)) n (both_right (both (leb (i + n) (length a)) (leb (j + n) (length b))) _ h) k l)
+
+-- n bytes from a place on
+part-get : (a : List ℕ) (i n k : ℕ) → k < n → get_or (take n (drop i a)) k 0 ≡ get_or a (i + k) 0
+part-get a i n k h = get_or-take n (drop i a) k 0 h ∙ get_or-drop i a k 0
+
+part-length : (a : List ℕ) (i n : ℕ) → i + n ≤ length a → length (take n (drop i a)) ≡ n
+part-length a i n h = omega (arith, length-take n (drop i a), length-drop i a)
+
+-- r is whether n bytes from i in a and from j in b are the same
+pub alike-parts :
+    (a : List ℕ) (i : ℕ) (b : List ℕ) (j n : ℕ) (r : Bool) →
+    i + n ≤ length a →
+    j + n ≤ length b →
+    r ≡ bytes_eq (take n (drop i a)) (take n (drop j b)) →
+    r ≡ alike_at a i b j n
+alike-parts a i b j n r f g e =
+    let d : Decides r (take n (drop i a) ≡ take n (drop j b)) = slice_eq-Decides Decides-eqb _ _ r e in
+    same_truth r (alike_at a i b j n)
+    (λ (h : r ≡ true).
+    sym (alike_all a i b j n f g
+    (all-is (λ k. eqb (get_or a (i + k) 0) (get_or b (j + k) 0)) n
+    (λ k l. eq-eqb _ _ (sym (part-get a i n k l) ∙ ap (λ (x : List ℕ). get_or x k 0) (d.0 h) ∙ part-get b j n k l)))))
+    (λ (h : alike_at a i b j n ≡ true).
+    d.1 (ext_get_or 0 _ _ (part-length a i n f ∙ sym (part-length b j n g))
+    (λ k l.
+    let m : k < n = omega (arith, part-length a i n f) in
+    part-get a i n k m ∙ alike-same a i b j n h k m ∙ sym (part-get b j n k m))))
+
+-- r is whether the bytes at a place are those of the word w
+pub word-part :
+    (s : List ℕ) (at : ℕ) (w : List ℕ) (r : Bool) →
+    at + length w ≤ length s →
+    r ≡ bytes_eq (take (length w) (drop at s)) w →
+    r ≡ has_at s at w
+unfolding has_at
+word-part s at w r f e =
+    let z : take (length w) (drop 0 w) ≡ w = take_all (length w) w (omega arith) in
+    alike-parts s at w 0 (length w) r f (omega arith) (rw z e)
+
+pub has-short : (s : List ℕ) (at : ℕ) (w : List ℕ) → length s < at + length w → has_at s at w ≡ false
+unfolding has_at
+has-short s at w h = sym (alike-short s at w 0 (length w) h)
+
+pub after-short : (s : List ℕ) (at : ℕ) (w : List ℕ) → length s < at + length w → None ≡ after_at s at w
+unfolding after_at
+after-short s at w h = rw (has-short s at w h)
+
+pub after-is : (s : List ℕ) (at : ℕ) (w : List ℕ) (r : Bool) → r ≡ has_at s at w → then_some r (at + length w) ≡ after_at s at w
+unfolding after_at
+after-is s at w true e = rw (← e)
+after-is s at w false e = rw (← e)
+
 pub has-fits : (s : List ℕ) (at : ℕ) (w : List ℕ) → has_at s at w ≡ true → at + length w ≤ length s
 unfolding has_at
 has-fits s at w h = alike-fits s at w 0 (length w) h
@@ -55,15 +103,27 @@ module _ (s : List ℕ) (at : ℕ) where
   unfolding value_at both
   value-short h = rw (lt-leb (at + 8) (length s) h)
 
-  pub value-miss : (k : ℕ) → k < 8 → hex_of (get_or s (at + k) 0) ≡ false → false ≡ value_at s at
-  unfolding value_at both
-  value-miss k h e =
-      let m : all (λ k. hex_of (get_or s (at + k) 0)) 8 ≡ false = all-fails (λ k. hex_of (get_or s (at + k) 0)) 8 k h e in
-      rw (m, both-false-right (leb (at + 8) (length s)) false refl)
+  value-digit : value_at s at ≡ true → (k : ℕ) → k < 8 → hex_of (get_or s (at + k) 0) ≡ true
+  unfolding value_at
+  value-digit h = all-at (λ k. hex_of (get_or s (at + k) 0)) 8 (both_right (leb (at + 8) (length s)) _ h)
 
   pub value-all : at + 8 ≤ length s → all (λ k. hex_of (get_or s (at + k) 0)) 8 ≡ true → true ≡ value_at s at
   unfolding value_at both
   value-all f h = rw (le-leb (at + 8) (length s) f, h)
+
+  -- r is whether each of 8 bytes from the place on is a hex digit
+  pub value-parts : (r : Bool) → at + 8 ≤ length s → (r ≡ true ↔ AllPass hex_of (take 8 (drop at s))) → r ≡ value_at s at
+  value-parts r f e =
+      same_truth r (value_at s at)
+      (λ (h : r ≡ true).
+      sym (value-all f
+      (all-is (λ k. hex_of (get_or s (at + k) 0)) 8
+      (λ k l. ap hex_of (sym (part-get s at 8 k l)) ∙ e.0 h k 0 (omega (arith, part-length s at 8 f))))))
+      (λ (h : value_at s at ≡ true).
+      e.1
+      (λ k d l.
+      let m : k < 8 = omega (arith, part-length s at 8 f) in
+      ap hex_of (get_or_default (take 8 (drop at s)) k d 0 l ∙ part-get s at 8 k m) ∙ value-digit h k m))
 
   pub value-fits : value_at s at ≡ true → at + 8 ≤ length s
   unfolding value_at
@@ -71,7 +131,7 @@ module _ (s : List ℕ) (at : ℕ) where
 
 -- r is what the digit at the place was found to be
 module _ (s : List ℕ) (at r : ℕ) (e : r ≡ digit_at s at) where
-  pub digits-stop : (f v : ℕ) → r ≡ 10 → Is v at ≡ digits_from f s at v
+  pub digits-stop : (f v : ℕ) → r ≡ 10 → counted v at ≡ digits_from f s at v
   unfolding digits_from
   digits-stop zero v h = refl
   digits-stop (suc f) v h = rw (← e, h)
@@ -81,68 +141,21 @@ module _ (s : List ℕ) (at r : ℕ) (e : r ≡ digit_at s at) where
   unfolding digits_from
   digits-go f g v q h = rw (q, add-one g, ← e, ne_eqb r 10 h)
 
-pub digits-end : (s : List ℕ) (at f v : ℕ) → f ≡ 0 → Is v at ≡ digits_from f s at v
+pub digits-end : (s : List ℕ) (at f v : ℕ) → f ≡ 0 → counted v at ≡ digits_from f s at v
 unfolding digits_from
 digits-end s at f v h = rw h
 
-pub below-ten : (r : ℕ) → r ≤ 10 → (r ≡ 10 → ⊥) → r < 10
-below-ten r h n = ⊎_elim (λ e. absurd (n e)) (λ l. l) (eq-or-lt_of_le h)
+-- what stands at a place, where a word does, and where it doesn't
+pub after_tells :
+    (s : List ℕ) (at : ℕ) (w : List ℕ) →
+    ((after_at s at w ≡ Some (at + length w)) × (has_at s at w ≡ true) × (at + length w ≤ length s)) ⊎ ((after_at s at w ≡ None) × (has_at s at w ≡ false))
+unfolding after_at
+after_tells s at w =
+    elim (true-or-false (has_at s at w)) [ inl h ↦ inl (rw h, h, has-fits s at w h) | inr h ↦ inr (rw h, h) ]
 
-pub reads-fits : (s : List ℕ) (at : ℕ) → reads_at s at ≡ true → at + 20 ≤ length s
-unfolding reads_at
-reads-fits s at h =
-    let t : has_at s (at + 13) turns_word ≡ true = both_right (value_at s (at + 5)) (has_at s (at + 13) turns_word) (both_right (has_at s at read_word) (both (value_at s (at + 5)) (has_at s (at + 13) turns_word)) h) in
-    omega (arith, has-fits s (at + 13) turns_word t)
-
-module _ (s : List ℕ) (at k next : ℕ) where
-  -- r is what was found after the count
-  pub ending-is : (r : Tail) → r ≡ rest_at s next → k < 65536 → ending_with at k next r ≡ ending_of s at (Is k next)
-  unfolding ending_of
-  ending-is r f h = rw (lt-ltb k 65536 h, f)
-
-  pub ending-not : 65536 ≤ k → Stray ≡ ending_of s at (Is k next)
-  unfolding ending_of
-  ending-not h = rw (le-ltb k 65536 h)
-
-pub with-told : (at k next i o : ℕ) → Ending at (counts k i o) next ≡ ending_with at k next (Told i o)
-unfolding ending_with
-with-told at k next i o = refl
-
-pub ending-none : (s : List ℕ) (at : ℕ) → Stray ≡ ending_of s at Nothing
-unfolding ending_of
-ending-none s at = refl
-
--- r is whether a space was found after the line number
-module _ (s : List ℕ) (v next : ℕ) (r : Bool) (e : r ≡ has_at s next space) where
-  pub after-space : r ≡ true → answer_at s (next + 1) ≡ after_number s (Is v next)
-  unfolding after_number
-  after-space h = rw (← e, h)
-
-  pub after-other : r ≡ false → Stray ≡ after_number s (Is v next)
-  unfolding after_number
-  after-other h = rw (← e, h)
-
-pub after_none : (s : List ℕ) → Stray ≡ after_number s Nothing
-unfolding after_number
-after_none s = refl
-
--- q is whether ` out O` was found after I, r whether both tests hold
-module _ (s : List ℕ) (v next : ℕ) (q r : Bool) (f : q ≡ closes_at s next out_word) (e : r ≡ both (ltb v 65536) q) where
-  pub out-fits : r ≡ true → next + 5 ≤ length s
-  unfolding closes_at
-  out-fits h =
-      let c : closes_at s next out_word ≡ true = sym f ∙ both_right (ltb v 65536) q (sym e ∙ h) in
-      has-fits s next out_word (both_left (has_at s next out_word) _ c)
-
-  -- n is the number after it, w what that is
-  pub out-is : (n : Number) (w : ℕ) → r ≡ true → n ≡ number_at s (next + 5) → w ≡ number_is n → Told v w ≡ out_of s (Is v next)
-  unfolding out_of
-  out-is n w h g d = rw (← f, ← e, h, d, g)
-
-  pub out-not : r ≡ false → Broken ≡ out_of s (Is v next)
-  unfolding out_of
-  out-not h = rw (← f, ← e, h)
-
-pub out_none : (s : List ℕ) → Broken ≡ out_of s Nothing
-unfolding out_of
-out_none s = refl
+-- the number with which a line closes, where it does, and where it doesn't
+pub closing_tells :
+    (s : List ℕ) (at : ℕ) (w : List ℕ) → ((is_some (closing_at s at w) ≡ true) × (closes_at s at w ≡ true)) ⊎ ((is_some (closing_at s at w) ≡ false) × (closes_at s at w ≡ false))
+unfolding closing_at
+closing_tells s at w =
+    elim (true-or-false (closes_at s at w)) [ inl h ↦ inl (rw h, h) | inr h ↦ inr (rw h, h) ]

@@ -2,359 +2,248 @@
 // No public function has a `requires`. A line is its bytes, newline apart.
 #![tactic(auto)]
 
-ghost use Rattle.std.specs.Prelude.{◌≡◌, ◌-◌, ◌≤◌, ◌<◌, min, length};
-ghost use Rattle.output.specs.Line.{alike_at, has_at, ends_at, digit_of, digit_at, digits_from, number_at, last_of, hex_of, value_at, closes_at, plain_at, reads_at, count_at, number_is, out_of, rest_at, ending_with, ending_of, answer_at, line_of, is_line};
+ghost use Rattle.std.specs.Prelude.{◌≡◌, ◌+◌, ◌-◌, ◌<◌, ◌≤◌, true, false, length, take, drop, MatchOption, ◌↔◌, IsTrue};
+ghost use Rattle.std.specs.List.{AllPass};
+ghost use Rattle.output.specs.Line.{alike_at, after_at, ends_at, digit_at, digits_from, number_at, small_of, hex_of, value_at, closing_at, plain_at, reads_at, count_at, transfers_at, ending_of, answer_at, line_of, is_line};
 
 // A number in a line: what it is, which stays at 65,536 once there, and the place after it.
 #[derive(Clone, Copy)]
-pub enum Number {
-    Nothing,
-    Is(u32, usize),
+pub struct Number {
+    pub value: u32,
+    pub next: usize,
 }
 
-// What an ending carries: turns, blocks fetched, blocks written back. A record of before 02's E4 tells no transfers: then both are 0.
-#[derive(Clone, Copy)]
-pub struct Counts {
-    pub turns: u32,
-    pub told: bool,
+// Blocks fetched and blocks written back.
+#[derive(Clone, Copy, PartialEq, Eq)]
+pub struct Transfers {
     pub fetched: u32,
     pub back: u32,
 }
 
-// What stands after an ending's turn count: what replay never prints, nothing, or the transfers.
+// What an ending carries. A record of before 02's E4 tells no transfers.
 #[derive(Clone, Copy)]
-pub enum Tail {
-    Broken,
-    Bare,
-    Told(u32, u32),
+pub struct Counts {
+    pub turns: u32,
+    pub transfers: Option<Transfers>,
 }
 
-// A line: no line of replay, a line of replay that is no ending, or an ending with the place of its turn count, what it carries and the place after the count.
+// The place of an ending's turn count, what the ending carries, and the place after the count.
+#[derive(Clone, Copy)]
+pub struct Ending {
+    pub at: usize,
+    pub counts: Counts,
+    pub next: usize,
+}
+
+// A line of replay: one that is no ending, or an ending.
 #[derive(Clone, Copy)]
 pub enum Line {
-    Stray,
     Plain,
-    Ending {
-        at: usize,
-        counts: Counts,
-        next: usize,
-    },
+    Ending(Ending),
+}
+
+// n bytes from a place on; none where they are not all there.
+fn part(s: &[u8], at: usize, n: usize) -> Option<&[u8]>
+    ensures { MatchOption result (length s.now < at + n) (λ p. (at + n ≤ length s.now) × (p.now ≡ take n (drop at s.now))) }
+{
+    s.get(at..)?.get(..n)
 }
 
 // Whether n bytes from i in a and from j in b are there, and are the same.
 pub fn alike(a: &[u8], i: usize, b: &[u8], j: usize, n: usize) -> bool
     ensures { result ≡ alike_at a.now i b.now j n }
 {
-    if a.len() < n {
-        return false;
+    match (part(a, i, n), part(b, j, n)) {
+        (Some(x), Some(y)) => x == y,
+        _ => false,
     }
-    if a.len() - n < i {
-        return false;
-    }
-    if b.len() < n {
-        return false;
-    }
-    if b.len() - n < j {
-        return false;
-    }
-    let mut k: usize = 0;
-    while k < n {
-        if a[i + k] != b[j + k] {
-            return false;
-        }
-        k += 1;
-    }
-    true
 }
 
-// Whether the word w stands at a place.
-fn has(s: &[u8], at: usize, w: &[u8]) -> bool
-    ensures { result ≡ has_at s.now at w.now }
+// The place after the word w, where it stands at a place.
+fn after(s: &[u8], at: usize, w: &[u8]) -> Option<usize>
+    ensures { result ≡ after_at s.now at w.now }
 {
-    alike(s, at, w, 0, w.len())
+    (part(s, at, w.len())? == w).then_some(at + w.len())
 }
 
 // Whether it stands there and the line ends with it.
+#[tactic(auto, using(std::proofs::lemmas::Bool::Decides::nat_tests, crate::proofs::Lines::after_tells), unfolding(crate::specs::Line::ends_at, laws::specs::Choice::both))]
 fn ends(s: &[u8], at: usize, w: &[u8]) -> bool
     ensures { result ≡ ends_at s.now at w.now }
 {
-    if has(s, at, w) {
-        return at + w.len() == s.len();
-    }
-    false
+    after(s, at, w) == Some(s.len())
 }
 
-fn wide(b: u8) -> u32
-    ensures { result ≡ b }
+// The digit at a place.
+#[tactic(auto, using(std::proofs::lemmas::Bool::Decides::nat_tests), unfolding(crate::specs::Line::digit_at, crate::specs::Line::digit_of))]
+fn digit_at(s: &[u8], at: usize) -> Option<u32>
+    ensures { MatchOption result (digit_at s.now at ≡ 10) (λ d. (d ≡ digit_at s.now at) × (d < 10) × (at < length s.now)) }
 {
-    b as u32
-}
-
-fn digit(b: u8) -> u32
-    ensures { (result ≡ digit_of b) × (result ≤ 10) }
-{
-    if b < b'0' {
-        return 10;
+    match s.get(at)? {
+        b @ b'0'..=b'9' => Some(u32::from(b - b'0')),
+        _ => None,
     }
-    if b'9' < b {
-        return 10;
-    }
-    wide(b) - 48
-}
-
-fn digit_at(s: &[u8], at: usize) -> u32
-    ensures { (result ≡ digit_at s.now at) × (result ≤ 10) × (result < 10 → at < length s.now) }
-{
-    if at < s.len() { digit(s[at]) } else { 10 }
 }
 
 // The digits from a place on.
 fn digits(s: &[u8], at: usize) -> Number
     ensures { result ≡ digits_from (length s.now - at) s.now at 0 }
 {
-    let mut v: u32 = 0;
-    let mut i = at;
-    while i < s.len() {
-        let d = digit_at(s, i);
-        if d == 10 {
-            return Number::Is(v, i);
-        }
-        v = capped(v * 10 + d);
-        i += 1;
+    let mut value = 0;
+    for i in at..s.len() {
+        let Some(d) = digit_at(s, i) else {
+            return Number { value, next: i };
+        };
+        value = (value * 10 + d).min(65536);
     }
-    Number::Is(v, i)
-}
-
-// At most 65,536.
-fn capped(v: u32) -> u32
-    ensures { (result ≡ min v 65536) × (result ≤ 65536) }
-{
-    if v < 65536 { v } else { 65536 }
+    Number {
+        value,
+        next: at.max(s.len()),
+    }
 }
 
 // A number at a place.
-fn number_at(s: &[u8], at: usize) -> Number
+#[tactic(auto, using(std::proofs::lemmas::Bool::Decides::nat_tests), unfolding(crate::specs::Line::number_at, laws::specs::Choice::both))]
+fn number_at(s: &[u8], at: usize) -> Option<Number>
     ensures { result ≡ number_at s.now at }
 {
-    let d = digit_at(s, at);
-    if d == 10 {
-        return Number::Nothing;
+    let d = digit_at(s, at)?;
+    if d == 0 && digit_at(s, at + 1).is_some() {
+        return None;
     }
-    let e = digit_at(s, at + 1);
-    if laws::both(d == 0, e < 10) {
-        return Number::Nothing;
-    }
-    digits(s, at)
+    Some(digits(s, at))
 }
 
-// Whether it is a number of at most 65,535 with which a line of that length ends.
-fn last(len: usize, n: Number) -> bool
-    ensures { result ≡ last_of len n }
+// One of at most 65,535.
+#[tactic(auto, using(std::proofs::lemmas::Bool::Decides::nat_tests), unfolding(crate::specs::Line::small_of))]
+fn small_at(s: &[u8], at: usize) -> Option<Number>
+    ensures { result ≡ small_of (number_at s.now at) }
 {
-    match n {
-        Number::Is(v, next) => laws::both(v < 65536, next == len),
-        Number::Nothing => false,
-    }
+    let n = number_at(s, at)?;
+    if n.value < 65536 { Some(n) } else { None }
 }
 
+#[tactic(auto, using(std::proofs::lemmas::Bool::Decides::nat_tests), unfolding(crate::specs::Line::hex_of, laws::specs::Choice::both, laws::specs::Choice::either))]
 fn hex(b: u8) -> bool
     ensures { result ≡ hex_of b }
 {
-    laws::either(
-        laws::both(b'0' <= b, b <= b'9'),
-        laws::both(b'a' <= b, b <= b'f'),
-    )
+    matches!(b, b'0'..=b'9' | b'a'..=b'f')
+}
+
+fn all_hex(v: &[u8]) -> bool
+    ensures { IsTrue result ↔ AllPass hex_of v.now }
+{
+    v.iter().all(|b| hex(*b))
 }
 
 // Whether a value, 8 lower-case hex digits, stands at a place.
 fn value(s: &[u8], at: usize) -> bool
     ensures { result ≡ value_at s.now at }
 {
-    if s.len() < 8 {
-        return false;
+    match part(s, at, 8) {
+        Some(v) => all_hex(v),
+        None => false,
     }
-    if s.len() - 8 < at {
-        return false;
-    }
-    let mut k: usize = 0;
-    while k < 8 {
-        if !hex(s[at + k]) {
-            return false;
-        }
-        k += 1;
-    }
-    true
 }
 
-// Whether the word w stands at a place and the line ends with a number after it.
-fn closes(s: &[u8], at: usize, w: &[u8]) -> bool
-    ensures { result ≡ closes_at s.now at w.now }
+// The number of at most 65,535 with which the line ends, behind the word w at a place.
+#[tactic(auto, using(std::proofs::lemmas::Bool::Decides::nat_tests, crate::proofs::Lines::after_tells), unfolding(crate::specs::Line::closing_at, crate::specs::Line::closes_at, crate::specs::Line::small_of, crate::specs::Line::last_of, crate::specs::Line::number_is, laws::specs::Choice::both))]
+fn closing(s: &[u8], at: usize, w: &[u8]) -> Option<u32>
+    ensures { result ≡ closing_at s.now at w.now }
 {
-    if has(s, at, w) {
-        return last(s.len(), number_at(s, at + w.len()));
+    let n = small_at(s, after(s, at, w)?)?;
+    if n.next == s.len() {
+        Some(n.value)
+    } else {
+        None
     }
-    false
 }
 
 // Whether `ok`, `wait`, `moved` or `no C` stands there.
+#[tactic(auto, using(crate::proofs::Lines::closing_tells, std::proofs::lemmas::Bool::Decides::nat_tests), unfolding(crate::specs::Line::plain_at, laws::specs::Choice::either))]
 fn plain(s: &[u8], at: usize) -> bool
     ensures { result ≡ plain_at s.now at }
 {
-    let a = laws::either(ends(s, at, b"ok"), ends(s, at, b"wait"));
-    let b = laws::either(ends(s, at, b"moved"), closes(s, at, b"no "));
-    laws::either(a, b)
+    ends(s, at, b"ok")
+        || ends(s, at, b"wait")
+        || ends(s, at, b"moved")
+        || closing(s, at, b"no ").is_some()
 }
 
-// Whether `read V turns ` stands there.
-fn reads(s: &[u8], at: usize) -> bool
-    ensures { result ≡ reads_at s.now at }
+// The place after `read V turns `, where it stands at a place.
+#[tactic(auto, using(std::proofs::lemmas::Bool::Decides::nat_tests, crate::proofs::Lines::after_tells), unfolding(crate::specs::Line::reads_at, laws::specs::Choice::both))]
+fn reads(s: &[u8], at: usize) -> Option<usize>
+    ensures { MatchOption result (reads_at s.now at ≡ false) (λ k. (reads_at s.now at ≡ true) × (k ≡ at + 20)) }
 {
-    if has(s, at, b"read ") {
-        if value(s, at + 5) {
-            return has(s, at + 13, b" turns ");
-        }
+    let v = after(s, at, b"read ")?;
+    if value(s, v) {
+        return after(s, v + 8, b" turns ");
     }
-    false
+    None
 }
 
-// Where the count of an ending that begins at a place stands; 0 where no ending begins there.
-fn count_at(s: &[u8], at: usize) -> usize
-    ensures { result ≡ count_at s.now at }
+// Where the count of an ending that begins at a place stands.
+#[tactic(auto, using(std::proofs::lemmas::Bool::Decides::nat_tests, crate::proofs::Lines::after_tells), unfolding(crate::specs::Line::count_at, laws::specs::Choice::either))]
+fn count_at(s: &[u8], at: usize) -> Option<usize>
+    ensures { MatchOption result (count_at s.now at ≡ 0) (λ k. (k ≡ count_at s.now at) × (0 < k)) }
 {
-    if has(s, at, b"done turns ") {
-        return at + 11;
-    }
-    if has(s, at, b"same turns ") {
-        return at + 11;
-    }
-    if reads(s, at) {
-        return at + 20;
-    }
-    0
+    after(s, at, b"done turns ")
+        .or_else(|| after(s, at, b"same turns "))
+        .or_else(|| reads(s, at))
 }
 
-// What a number is; 0 where there is none.
-fn number_is(n: Number) -> u32
-    ensures { result ≡ number_is n }
+// The transfers ` in I out O`, where they stand at a place and the line ends with them.
+#[tactic(auto, using(std::proofs::lemmas::Bool::Decides::nat_tests, crate::proofs::Lines::after_tells), unfolding(crate::specs::Line::transfers_at, crate::specs::Line::out_of, crate::specs::Line::closing_at, crate::specs::Line::small_of, laws::specs::Choice::both))]
+fn transfers_at(s: &[u8], at: usize) -> Option<Transfers>
+    ensures { result ≡ transfers_at s.now at }
 {
-    match n {
-        Number::Is(v, _) => v,
-        Number::Nothing => 0,
-    }
+    let fetched = small_at(s, after(s, at, b" in ")?)?;
+    let back = closing(s, fetched.next, b" out ")?;
+    Some(Transfers {
+        fetched: fetched.value,
+        back,
+    })
 }
 
-// The transfers, where a number is I and ` out O` follows it.
-fn out(s: &[u8], n: Number) -> Tail
-    ensures { result ≡ out_of s.now n }
+// The ending whose count stands at a place.
+#[tactic(auto, using(std::proofs::lemmas::Bool::Decides::nat_tests), unfolding(crate::specs::Line::ending_of, crate::specs::Line::ending_with, crate::specs::Line::small_of, crate::specs::Line::rest_at))]
+fn ending_of(s: &[u8], at: usize) -> Option<Line>
+    ensures { result ≡ ending_of s.now at (number_at s.now at) }
 {
-    match n {
-        Number::Is(v, next) => {
-            if laws::both(v < 65536, closes(s, next, b" out ")) {
-                return Tail::Told(v, number_is(number_at(s, next + 5)));
-            }
-            Tail::Broken
-        }
-        Number::Nothing => Tail::Broken,
-    }
-}
-
-// What stands from a place on: nothing, ` in I out O`, or neither.
-fn rest(s: &[u8], at: usize) -> Tail
-    ensures { result ≡ rest_at s.now at }
-{
-    if at == s.len() {
-        return Tail::Bare;
-    }
-    if has(s, at, b" in ") {
-        return out(s, number_at(s, at + 4));
-    }
-    Tail::Broken
-}
-
-// The ending whose count k stands at a place, with what follows it.
-fn ending_with(at: usize, k: u32, next: usize, tail: Tail) -> Line
-    ensures { result ≡ ending_with at k next tail }
-{
-    match tail {
-        Tail::Broken => Line::Stray,
-        Tail::Bare => {
-            let counts = Counts {
-                turns: k,
-                told: false,
-                fetched: 0,
-                back: 0,
-            };
-            Line::Ending { at, counts, next }
-        }
-        Tail::Told(fetched, back) => {
-            let counts = Counts {
-                turns: k,
-                told: true,
-                fetched,
-                back,
-            };
-            Line::Ending { at, counts, next }
-        }
-    }
-}
-
-// The ending whose count is the number n at a place.
-fn ending(s: &[u8], at: usize, n: Number) -> Line
-    ensures { result ≡ ending_of s.now at n }
-{
-    match n {
-        Number::Is(k, next) => {
-            if k < 65536 {
-                return ending_with(at, k, next, rest(s, next));
-            }
-            Line::Stray
-        }
-        Number::Nothing => Line::Stray,
-    }
+    let Number { value: turns, next } = small_at(s, at)?;
+    let transfers = if next == s.len() {
+        None
+    } else {
+        Some(transfers_at(s, next)?)
+    };
+    let counts = Counts { turns, transfers };
+    Some(Line::Ending(Ending { at, counts, next }))
 }
 
 // What stands after the line number and its space.
-fn answer(s: &[u8], at: usize) -> Line
+#[tactic(auto, using(std::proofs::lemmas::Bool::Decides::nat_tests), unfolding(crate::specs::Line::answer_at))]
+fn answer(s: &[u8], at: usize) -> Option<Line>
     ensures { result ≡ answer_at s.now at }
 {
     if plain(s, at) {
-        return Line::Plain;
+        return Some(Line::Plain);
     }
-    let count = count_at(s, at);
-    if count == 0 {
-        return Line::Stray;
-    }
-    ending(s, count, number_at(s, count))
+    ending_of(s, count_at(s, at)?)
 }
 
-// What a line is.
-pub fn read(s: &[u8]) -> Line
+// What a line of replay is; none where it is no line of replay.
+#[tactic(auto, using(std::proofs::lemmas::Bool::Decides::nat_tests, crate::proofs::Lines::after_tells), unfolding(crate::specs::Line::line_of, crate::specs::Line::after_number))]
+pub fn read(s: &[u8]) -> Option<Line>
     ensures { result ≡ line_of s.now }
 {
-    let n = number_at(s, 0);
-    match n {
-        Number::Is(_, next) => {
-            if has(s, next, b" ") {
-                return answer(s, next + 1);
-            }
-            Line::Stray
-        }
-        Number::Nothing => Line::Stray,
-    }
+    let number = number_at(s, 0)?;
+    answer(s, after(s, number.next, b" ")?)
 }
 
 // Whether a line is a line of replay.
+#[tactic(auto, unfolding(crate::specs::Line::is_line))]
 pub fn is_line(s: &[u8]) -> bool
     ensures { result ≡ is_line (line_of s.now) }
 {
-    let l = read(s);
-    match l {
-        Line::Stray => false,
-        Line::Plain => true,
-        Line::Ending {
-            at: _,
-            counts: _,
-            next: _,
-        } => true,
-    }
+    read(s).is_some()
 }

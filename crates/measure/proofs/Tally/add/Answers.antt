@@ -1,36 +1,9 @@
--- `measure::Tally::add` meets its contract.
-use mathlib.Core.Path.{◌∙◌}
-use Rattle.measure.proofs.Tallies.{add-farther, add-nearer}
+-- `measure::Tally::add` meets its contract: where a place is no ending, only two numbers can change.
+use Rattle.std.proofs.Common.{refl, arith}
+use Rattle.measure.proofs.Tallies.{one-or-none, added-plain}
 use Rattle.measure.proofs.Tally.add.Goals as goal
 
-pub returns-then-self-d : goal.returns-then-self-d
-returns-then-self-d c =
-    add-farther _ _ _ _ _ _ _ _ _ _ _ _ _
-    (c.long-d.ensures ∙ c.drift.ensures)
-    c.counted.ensures
-    c.counted-2.ensures
-    c.counted-3.ensures
-    c.more-lines.ensures
-    c.more-endings.ensures
-    c.more-drifted.ensures
-    c.more-total.ensures
-    c.more-changed.ensures
-    c.plus-recorded.ensures
-    c.plus-replayed.ensures
-    c.if-self-d.true
-
-pub returns : goal.returns
-returns c =
-    add-nearer _ _ _ _ _ _ _ _ _ _ _ _ _
-    (c.long-d.ensures ∙ c.drift.ensures)
-    c.counted.ensures
-    c.counted-2.ensures
-    c.counted-3.ensures
-    c.more-lines.ensures
-    c.more-endings.ensures
-    c.more-drifted.ensures
-    c.more-total.ensures
-    c.more-changed.ensures
-    c.plus-recorded.ensures
-    c.plus-replayed.ensures
-    c.if-self-d.false
+pub returns-in_default : goal.returns-in_default
+returns-in_default c =
+    let e = added-plain c.args.self c.args.pair c.in_default.is (omega arith) (omega arith) (omega arith) (omega arith) (omega arith) (omega arith) (omega arith) in
+    rw (e, c.saturating_add-lines.ensures, c.saturating_add-changed.ensures, c.from.ensures, one-or-none c.args.pair.changed) refl
