@@ -82,6 +82,7 @@ pub fn cleaned(w: u32) -> u32
     if changed(w) { w - 1 } else { w }
 }
 
+// Kept: line l for none, and no Option: `Find.line_of`, `lowest_free`, `loose_from` and `victim`, which 01's rules are made of (`Place.place_line`), have it so.
 // The line that has block b, of l lines; l where none has.
 pub fn line_of(lines: &[u32], l: usize, b: u32) -> usize
     ensures { result ≡ line_of lines.now l b }

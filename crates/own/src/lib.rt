@@ -13,6 +13,7 @@ ghost use Rattle.own.specs.Own.{line_over, own_of, line_on};
 use geometry::{Geometry, Shape};
 use tracker::{Phase, Tracker};
 
+// Kept: line L for none, and no Option: `Step.let_go` lets go of line L too, where the row has one, and `let_go` promises that.
 // The own lines of levels 1 and 2: no device has more levels above its leaves.
 #[derive(Clone, Copy)]
 pub struct Own {

@@ -3,6 +3,7 @@
 #![tactic(auto)]
 
 ghost use Rattle.std.specs.Prelude.{◌≡◌, List, ℕ, ◌+◌, ◌*◌, ◌≤◌, ◌<◌, eqb, length, IfSome};
+ghost use Rattle.tracker.specs.Transfers.{none};
 ghost use Rattle.rules.specs.Copies.{tally};
 ghost use Rattle.rules.specs.Place.{rows_fit, written_back, back_of, filled, bring_in, create};
 ghost use Rattle.placing.specs.Lines.{rows, placed, fetched, brought_if, all_drained, drained_on, leaves};
@@ -16,6 +17,19 @@ pub struct Spot {
     pub line: usize,
     pub shape: Shape,
     pub copies: Transfers,
+}
+
+impl Spot {
+    // A line that is there, with no copy made.
+    pub fn at(line: usize, shape: Shape) -> Spot
+        ensures { result ≡ record { line = line; shape = shape; copies = none } }
+    {
+        Spot {
+            line,
+            shape,
+            copies: Transfers::none(),
+        }
+    }
 }
 
 // The line bytes are those of L lines.
@@ -50,6 +64,8 @@ fn write_back(i: usize, lines: &[u32], bytes: &[u8], memory: &mut [u8]) -> Trans
     }
 }
 
+// Kept: the three rows as three parameters, here and in each function that is lent some of them, and no struct of three `&mut`: its functions would have to
+// say of each row that it is the one that was lent and as long as it was, and not which of them they only read; here the types say both.
 // Placing a block: the line to take, written back if it was changed, and the shape with its hand; none where no line can be taken.
 pub fn place(shape: Shape, lines: &[u32], bytes: &[u8], memory: &mut [u8]) -> Option<Spot>
     ensures line { IfSome result (λ s. s.line < shape.l) }
@@ -61,11 +77,7 @@ pub fn place(shape: Shape, lines: &[u32], bytes: &[u8], memory: &mut [u8]) -> Op
     }
     let free = line::lowest_free(lines, l);
     if free < l {
-        return Some(Spot {
-            line: free,
-            shape,
-            copies: Transfers::none(),
-        });
+        return Some(Spot::at(free, shape));
     }
     let i = line::victim(lines, l, shape.hand);
     if l <= i {
@@ -134,11 +146,7 @@ pub fn bring_in(
 {
     let i = line::line_of(lines, shape.l, b);
     if i < shape.l {
-        return Some(Spot {
-            line: i,
-            shape,
-            copies: Transfers::none(),
-        });
+        return Some(Spot::at(i, shape));
     }
     fetch(shape, b, lines, bytes, memory)
 }
@@ -158,11 +166,7 @@ pub fn create(
     let i = line::line_of(lines, shape.l, b);
     if i < shape.l {
         fill(i, b, true, block, lines, bytes);
-        return Some(Spot {
-            line: i,
-            shape,
-            copies: Transfers::none(),
-        });
+        return Some(Spot::at(i, shape));
     }
     let spot = place(shape, lines, bytes, memory)?;
     fill(spot.line, b, true, block, lines, bytes);

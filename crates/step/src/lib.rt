@@ -89,12 +89,7 @@ fn top(
         if line::held(lines[i]) {
             return outcome::waits(shape, t);
         }
-        let lined = Spot {
-            line: i,
-            shape,
-            copies: Transfers::none(),
-        };
-        return descend(x, own, below, lined, t, lines, bytes);
+        return descend(x, own, below, Spot::at(i, shape), t, lines, bytes);
     }
     let b = Geometry::block_over(shape.top(), shape.n, t.group) as u32;
     let Some(spot) = placing::fetch(shape, b, lines, bytes, memory) else {

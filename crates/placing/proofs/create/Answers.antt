@@ -13,7 +13,7 @@ fill-requires c =
 
 pub returns-then-i-shape-clause-left : goal.returns-then-i-shape-clause-left
 returns-then-i-shape-clause-left c =
-    create-lined _ _ _ _ _ _ _ _ _ c.line_of-i.ensures (omega arith) c.none.ensures (c.fill.ensures _)
+    rw c.at.ensures (create-lined _ _ _ _ _ _ _ _ _ c.line_of-i.ensures (omega arith) refl (c.fill.ensures _))
 
 pub returns-in_err-spot-clause-left : goal.returns-in_err-spot-clause-left
 returns-in_err-spot-clause-left c =

@@ -12,7 +12,7 @@ returns-then-not-rows_fit-clause-left c =
 
 pub returns-then-free-l-clause-left : goal.returns-then-free-l-clause-left
 returns-then-free-l-clause-left c =
-    placed-free _ _ _ _ c.none.ensures _ (sym c.rows_fit.ensures ∙ c.if-not-rows_fit.false) c.lowest_free-free.ensures (omega arith)
+    rw c.at.ensures (placed-free _ _ _ _ refl _ (sym c.rows_fit.ensures ∙ c.if-not-rows_fit.false) c.lowest_free-free.ensures (omega arith))
 
 pub returns-then-l-i-clause-left : goal.returns-then-l-i-clause-left
 returns-then-l-i-clause-left c =

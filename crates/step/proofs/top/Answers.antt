@@ -1,5 +1,5 @@
 -- `top` meets its contract: a law for each way out.
-use mathlib.Core.Path.{sym, ◌∙◌}
+use mathlib.Core.Path.{refl, sym, ◌∙◌}
 use Prim.Native.Nat.{suc}
 use native.Mathlib.Omega.{arith}
 use Rattle.geometry.specs.Shape.{top_of}
@@ -22,7 +22,7 @@ returns-then-i-shape c =
     let a = c.args in
     let o = owns-found a.shape a.t.group a.lines.now c.find-own.ensures c.requires.0 in
     by-rule (top-lined a.shape a.x c.at-i.result a.t a.lines.now a.bytes.now a.memory.now c.find-own.result o (rw c.top.ensures at c.at-i.ensures) (omega arith)
-    (sym c.held.ensures ∙ c.if-held.false) c.none.ensures c.below_top-below.ensures) (c.descend.ensures _)
+    (sym c.held.ensures ∙ c.if-held.false) refl c.below_top-below.ensures) (rw c.at.ensures at (c.descend.ensures a.memory.now))
 
 pub overflow_cast-b : goal.overflow_cast-b
 overflow_cast-b c =
