@@ -3,6 +3,9 @@ use mathlib.Core.Path.{◌≡◌, sym, ap, ◌∙◌}
 use mathlib.Core.List.{List}
 use mathlib.Core.Bool.{Bool}
 use Prim.Native.Nat.{ℕ}
+use Rattle.std.specs.Prelude.{Result}
+use Rattle.laws.specs.declared.Refusal.{Refusal}
+use Rattle.laws.specs.Refusal.{refused_with}
 use Rattle.tracker.specs.declared.Access.{Access}
 use Rattle.tracker.specs.declared.Transfers.{Transfers}
 use Rattle.tracker.specs.declared.Answer.{Answer}
@@ -11,6 +14,7 @@ use Rattle.rules.specs.State as rules
 use Rattle.rules.specs.Whole.{whole}
 use Rattle.rules.specs.Calls as calls
 use Rattle.rules.specs.Calls.{fresh, opened, issue, step, drain, show, show_no}
+use Rattle.whole.proofs.Numbers.{refused_one}
 use Rattle.cache.specs.declared.State.{State}
 use Rattle.cache.specs.declared.Out.{Out}
 use Rattle.cache.specs.Seen.{seen, did}
@@ -71,5 +75,5 @@ module _ (s : State) (bytes memory : List ℕ) (k : ℕ) where
   pub one-show : (a b : List ℕ) → a ≡ show (seen s) bytes memory k → b ≡ show (seen s) bytes memory k → a ≡ b
   one-show a b p q = p ∙ sym q
 
-  pub one-show-refusal : (a b : ℕ) → a ≡ show_no (seen s) bytes memory k → b ≡ show_no (seen s) bytes memory k → a ≡ b
-  one-show-refusal a b p q = p ∙ sym q
+  pub one-show-refusal : (a b : Result Unit Refusal) → refused_with a ≡ show_no (seen s) bytes memory k → refused_with b ≡ show_no (seen s) bytes memory k → a ≡ b
+  one-show-refusal = refused_one

@@ -8,10 +8,10 @@ use lib.Dec.{eqb, leb}
 use lib.ListN.{length}
 use borrow.Author.Tests.{lt-ltb, le-ltb, le-leb, eq-eqb, ne_eqb, ltb-true}
 use Rattle.laws.specs.Choice.{both}
-use Rattle.laws.specs.Refusal.{Tests, refusal, unless}
+use Rattle.laws.specs.declared.Refusal.{Refusal}
+use Rattle.laws.specs.Refusal.{Tests, number, refusal, unless}
 use Rattle.laws.proofs.Refusals.{refusal-0, refusal-hold, refusal-first, refusal-then, refusal-past, unless-0, unless-no}
 use Rattle.laws.specs.Bytes.{part}
-use Rattle.laws.specs.Scan.{all}
 use Rattle.laws.proofs.Choice.{both_true, both-false-right}
 use Rattle.geometry.specs.Shape.{shape_of, top_of}
 use Rattle.geometry.specs.TagMemory.{most_leaves_of, most_leaves, in_limits_of, map_block_of, map_byte_of, map_bit_of, block_on, block_place, most_trackers, most_lines}
@@ -21,7 +21,7 @@ use Rattle.block.specs.Block.{bit_at}
 use Rattle.memory.specs.PlainReading.{bit_over}
 use Rattle.memory.specs.True.{is_true_of, is_true, cleared_of, cleared_map}
 use Rattle.tracker.specs.declared.Access.{Access}
-use Rattle.tracker.specs.Tracker.{issued, is_idle}
+use Rattle.tracker.specs.Tracker.{issued}
 use Rattle.tracker.specs.Answer.{ok}
 use Rattle.line.specs.Find.{line_of}
 use Rattle.rules.specs.State.{State, tracker_at, lengths_right, begun, zero_state}
@@ -33,6 +33,7 @@ use Rattle.placing.specs.Lines.{rows, Drained, all_drained, drained_on}
 use Rattle.rules.proofs.Whole.{in_limits-of, n-most, t-most, l-most, whole-facts}
 use Rattle.rules.proofs.Calls.{bytes-right, memory-right}
 use Rattle.rules.proofs.Begun.{fresh-free, fresh-refused as refuses-fresh, fresh-accepted as accepts-fresh, open-refused as refuses-open, open-accepted as accepts-open}
+use Rattle.whole.proofs.Numbers.{number-some}
 use Rattle.cache.specs.Seen.{unready, unfit}
 
 both_yes : (a : Bool) → both a true ≡ a
@@ -77,51 +78,47 @@ module _ (n t l : ℕ) (bytes memory : List ℕ) where
       let q = refusal-then (fresh_tests (shape_of n t l) bytes memory) ((is_true_of (top_of (shape_of n t l)) n memory, 3) ∷ []) (rw e at h) in
       refuses-open n t l bytes memory (rw q (rw e at h)) ∙ rw (q, e)
 
+  module _ (r : Refusal) where
+    pub open-unready : number r ≡ unready n t l bytes memory → number r ≡ refusal (open_tests (shape_of n t l) bytes memory)
+    open-unready e = let p = number-some r in e ∙ sym (refusal-then (fresh_tests (shape_of n t l) bytes memory) _ (omega arith))
+
+    pub open-no : number r ≡ refusal (open_tests (shape_of n t l) bytes memory) → opened n t l bytes memory ≡ refused (number r) zero_state bytes memory
+    open-no e = let p = number-some r in refuses-open n t l bytes memory (omega arith) ∙ rw e refl
+
   module _ (e : unready n t l bytes memory ≡ 0) where
     open_no : refusal (open_tests (shape_of n t l) bytes memory) ≡ refusal ((is_true n memory, 3) ∷ [])
     open_no =
         refusal-past (fresh_tests (shape_of n t l) bytes memory) _ (refusal-hold (fresh_tests (shape_of n t l) bytes memory) refl e)
         ∙ ap (λ (b : Bool). refusal ((b, 3) ∷ [])) true-start
 
+    pub open-not-true : is_true n memory ≡ false → 3 ≡ refusal (open_tests (shape_of n t l) bytes memory)
+    open-not-true q = sym (open_no ∙ refusal-first [] _ _ _ tt q)
+
+    pub open-free : is_true n memory ≡ true → 0 ≡ refusal (open_tests (shape_of n t l) bytes memory)
+    open-free q = sym (open_no ∙ refusal-0 ((is_true n memory, 3) ∷ []) (q, tt))
+
     pub open-3 : is_true n memory ≡ false → opened n t l bytes memory ≡ refused 3 zero_state bytes memory
     open-3 q =
-        let c : refusal (open_tests (shape_of n t l) bytes memory) ≡ 3 = open_no ∙ refusal-first [] _ _ _ tt q in
-        refuses-open n t l bytes memory (omega arith) ∙ rw c
+        let c = open-not-true q in
+        refuses-open n t l bytes memory (omega arith) ∙ rw (← c)
 
     pub open-accepted : is_true n memory ≡ true → opened n t l bytes memory ≡ accepted (begun (shape_of n t l)) bytes memory
-    open-accepted q = accepts-open n t l bytes memory (open_no ∙ refusal-0 ((is_true n memory, 3) ∷ []) (q, tt))
+    open-accepted q = accepts-open n t l bytes memory (sym (open-free q))
 
 -- refusals 4 and 2
 module _ (s : State) (bytes memory : List ℕ) where
-  pub unfit-4 : whole s ≡ false → unfit s bytes memory ≡ 4
-  unfit-4 h = refusal-first [] _ _ _ tt h
-
-  pub unfit-2 : whole s ≡ true → lengths_right s.shape bytes memory ≡ false → unfit s bytes memory ≡ 2
-  unfit-2 h k = refusal-first ((whole s, 4) ∷ []) _ _ _ (h, tt) k
-
-  pub unfit-0 : whole s ≡ true → lengths_right s.shape bytes memory ≡ true → unfit s bytes memory ≡ 0
-  unfit-0 h k = refusal-0 (state_tests s bytes memory) (h, (k, tt))
-
   pub fit-whole : unfit s bytes memory ≡ 0 → whole s ≡ true
   fit-whole e = (refusal-hold (state_tests s bytes memory) refl e).0
 
-  -- past 4 and 2
-  then-no : (ts : Tests) → 0 < unfit s bytes memory → refusal (state_tests s bytes memory ++ ts) ≡ unfit s bytes memory
-  then-no ts h = refusal-then (state_tests s bytes memory) ts h
+  -- refused by one of the two, or by what comes after them
+  pub unfit-first : (ts : Tests) (r : Refusal) → number r ≡ unfit s bytes memory → number r ≡ refusal (state_tests s bytes memory ++ ts)
+  unfit-first ts r e = let p = number-some r in e ∙ sym (refusal-then (state_tests s bytes memory) ts (omega arith))
 
-  past-no : (ts : Tests) → unfit s bytes memory ≡ 0 → refusal (state_tests s bytes memory ++ ts) ≡ refusal ts
-  past-no ts e = refusal-past (state_tests s bytes memory) ts (refusal-hold (state_tests s bytes memory) refl e)
+  pub fit-rest : (ts : Tests) → 0 ≡ unfit s bytes memory → refusal ts ≡ refusal (state_tests s bytes memory ++ ts)
+  fit-rest ts e = sym (refusal-past (state_tests s bytes memory) ts (refusal-hold (state_tests s bytes memory) refl (sym e)))
 
 -- issue
 module _ (s : State) (bytes memory : List ℕ) (x : ℕ) (a : Access) where
-  pub issue-unfit : 0 < unfit s bytes memory → issue_no s bytes memory x a ≡ unfit s bytes memory
-  unfolding issue_no
-  issue-unfit h = then-no s bytes memory _ h
-
-  pub issue-fit : unfit s bytes memory ≡ 0 → issue_no s bytes memory x a ≡ refusal (issue_tests s.shape x a s.trackers)
-  unfolding issue_no
-  issue-fit e = past-no s bytes memory _ e
-
   -- where an issue is not refused
   pub issue-in : issue_no s bytes memory x a ≡ 0 → x < most_trackers
   unfolding issue_no
@@ -139,14 +136,6 @@ module _ (s : State) (bytes memory : List ℕ) (x : ℕ) (a : Access) where
 
 -- step
 module _ (s : State) (bytes memory : List ℕ) (x : ℕ) where
-  pub step-unfit : 0 < unfit s bytes memory → step_no s bytes memory x ≡ unfit s bytes memory
-  unfolding step_no
-  step-unfit h = then-no s bytes memory _ h
-
-  pub step-fit : unfit s bytes memory ≡ 0 → step_no s bytes memory x ≡ refusal (step_tests s.shape x s.trackers)
-  unfolding step_no
-  step-fit e = past-no s bytes memory _ e
-
   pub step_in : step_no s bytes memory x ≡ 0 → x < most_trackers
   unfolding step_no
   step_in e =
@@ -164,14 +153,6 @@ module _ (s : State) (bytes memory : List ℕ) (x : ℕ) where
 
 -- drain
 module _ (s : State) (bytes memory : List ℕ) where
-  pub drain-unfit : 0 < unfit s bytes memory → drain_no s bytes memory ≡ unfit s bytes memory
-  unfolding drain_no
-  drain-unfit h = then-no s bytes memory _ h
-
-  pub drain-fit : unfit s bytes memory ≡ 0 → drain_no s bytes memory ≡ refusal (drain_tests (all (λ x. is_idle (tracker_at s.trackers x)) s.shape.t))
-  unfolding drain_no all_idle
-  drain-fit e = past-no s bytes memory _ e
-
   -- where a drain is not refused, the rows are of L lines
   drain-rows : drain_no s bytes memory ≡ 0 → length s.lines ≡ most_lines → drained_on s.shape (rows s.lines bytes memory) ≡ all_drained s.shape.l (rows s.lines bytes memory)
   unfolding drain_no drained_on rows_fit
@@ -193,14 +174,6 @@ module _ (s : State) (bytes memory : List ℕ) where
 
 -- show
 module _ (s : State) (bytes memory : List ℕ) (k : ℕ) where
-  pub show-unfit : 0 < unfit s bytes memory → show_no s bytes memory k ≡ unfit s bytes memory
-  unfolding show_no
-  show-unfit h = then-no s bytes memory _ h
-
-  pub show-fit : unfit s bytes memory ≡ 0 → show_no s bytes memory k ≡ refusal (show_tests s.shape k (all (λ x. is_idle (tracker_at s.trackers x)) s.shape.t))
-  unfolding show_no all_idle
-  show-fit e = past-no s bytes memory _ e
-
   -- where a leaf is shown
   pub show-in : show_no s bytes memory k ≡ 0
       → (k < s.shape.n) × (in_limits_of (top_of s.shape) s.shape.n ≡ true) × (s.shape.l ≤ most_lines) × (length bytes ≡ 64 * s.shape.l) × (64 * s.shape.n ≤ length memory)
@@ -215,6 +188,9 @@ module _ (s : State) (bytes memory : List ℕ) (k : ℕ) where
         bytes-right s.shape bytes memory h.1.0,
         omega (arith, leaves, memory-right s.shape bytes memory h.1.0),
       )
+
+  pub show-no : (r : Refusal) → number r ≡ show_no s bytes memory k → 0 < show_no s bytes memory k
+  show-no r e = rw (← e) (number-some r)
 
   pub show-refused : 0 < show_no s bytes memory k → show s bytes memory k ≡ []
   unfolding show

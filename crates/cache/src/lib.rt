@@ -2,19 +2,18 @@
 // No public function has a `requires`: every number, every field of the state and both lent slices can be anything.
 #![tactic(auto)]
 
-ghost use Rattle.std.specs.Prelude.{◌≡◌, List, true, ℕ, ◌≤◌, ◌<◌};
+ghost use Rattle.std.specs.Prelude.{◌≡◌, List, true, ℕ, ◌+◌, ◌*◌, ◌≤◌, ◌<◌, length, IfOk};
+ghost use Rattle.laws.specs.Bytes.{part};
+ghost use Rattle.laws.specs.Refusal.{refusal, number, refused_with};
 ghost use Rattle.geometry.specs.Shape.{shape_of, top_of};
-ghost use Rattle.geometry.specs.TagMemory.{in_limits_of, most_lines};
+ghost use Rattle.geometry.specs.TagMemory.{block_place, in_limits_of, most_lines};
 ghost use Rattle.rules.specs.State.{begun, zero_state};
-ghost use Rattle.rules.specs.Whole.{limits, whole};
-ghost use Rattle.rules.specs.Step.{turn_of};
-ghost use Rattle.rules.specs.Calls.{refused, fresh, opened, issue_no, issue, step_no, step, drain_no, drain, show_no, shown_bit, shown_counts, show};
-ghost use Rattle.placing.specs.Lines.{rows, drained_on, leaves};
-ghost use Rattle.outcome.specs.Steps.{turned};
+ghost use Rattle.rules.specs.Whole.{whole};
+ghost use Rattle.rules.specs.Calls.{refused, accepted, open_tests, fresh, opened, issue_no, issue, step_no, step, drain_no, drain, show_no, shown_bit, shown_counts, show};
 ghost use Rattle.cache.specs.Seen.{seen, unready, unfit, did};
 
 use geometry::{Geometry, Shape};
-use outcome::Turned;
+use laws::Refusal;
 use tracker::{Access, Answer, Tracker, Transfers};
 
 // The shape, with L lines and T trackers: a line is a number (`line`), 0 where it is free; lines L and up, trackers T and up are not used.
@@ -36,38 +35,13 @@ pub struct Out {
     pub transfers: Transfers,
 }
 
-// The row of lines, lent on as a slice to be drained.
-fn drain_row(
-    shape: Shape,
-    row: &mut [u32; Geometry::MOST_LINES],
-    bytes: &[u8],
-    memory: &mut [u8],
-) -> Transfers
-    ensures { leaves result row.new bytes.now memory.new ≡ drained_on shape (rows row.old bytes.now memory.old) }
+// Block i of a row of blocks.
+fn block_in(row: &[u8], i: usize) -> &[u8]
+    requires { 64 * i + 64 ≤ length row.now }
+    ensures { result.now ≡ part row.now (block_place i) 64 }
 {
-    placing::drain(shape, row, bytes, memory)
-}
-
-// The row of lines, lent on as a slice for a step.
-fn turn_row(
-    shape: Shape,
-    x: u32,
-    tracker: Tracker,
-    row: &mut [u32; Geometry::MOST_LINES],
-    bytes: &mut [u8],
-    memory: &mut [u8],
-) -> Turned
-    ensures { turned result row.new bytes.new memory.new ≡ turn_of shape x tracker (rows row.old bytes.old memory.old) }
-{
-    step::turn(shape, x, tracker, row, bytes, memory)
-}
-
-// The shape of n leaves, T trackers and L lines, which are in the limits.
-fn shaped(n: u64, t: u64, l: u64) -> Shape
-    requires { limits (shape_of n t l) ≡ true }
-    ensures { result ≡ shape_of n t l }
-{
-    Shape::start(n as u32, t as u32, l as usize)
+    let at = Geometry::BLOCK_LEN * i;
+    &row[at..at + Geometry::BLOCK_LEN]
 }
 
 impl State {
@@ -75,237 +49,205 @@ impl State {
     fn begin(shape: Shape) -> State
         ensures { seen result ≡ begun shape }
     {
-        let idle = Tracker::rest();
         State {
             shape,
             lines: [0; Geometry::MOST_LINES],
-            trackers: [idle; Geometry::MOST_TRACKERS],
+            trackers: [Tracker::rest(); Geometry::MOST_TRACKERS],
         }
     }
 
-    // A refusal of fresh or open: its number, and a state that is zero throughout.
-    fn none(c: u8) -> Out
-        ensures { (bs m : List ℕ) → did result bs m ≡ refused c zero_state bs m }
+    // The call is accepted, and leaves this state.
+    fn accept(self) -> Out
+        ensures { (bs m : List ℕ) → did result bs m ≡ accepted (seen self) bs m }
     {
         Out {
-            state: State::begin(Shape::start(0, 0, 0)),
-            answer: Answer::No(c),
+            state: self,
+            answer: Answer::Accepted,
             transfers: Transfers::none(),
         }
     }
 
     // A refusal: its number and the given state.
-    fn refuse(self, c: u8) -> Out
-        ensures { (bs m : List ℕ) → did result bs m ≡ refused c (seen self) bs m }
+    fn refuse(self, r: Refusal) -> Out
+        ensures { (bs m : List ℕ) → did result bs m ≡ refused (number r) (seen self) bs m }
     {
         Out {
             state: self,
-            answer: Answer::No(c),
+            answer: Answer::No(u8::from(r)),
             transfers: Transfers::none(),
         }
+    }
+
+    // A refusal of fresh or open: its number, and a state that is zero throughout.
+    fn none(r: Refusal) -> Out
+        ensures { (bs m : List ℕ) → did result bs m ≡ refused (number r) zero_state bs m }
+    {
+        State::begin(Shape::start(0, 0, 0)).refuse(r)
     }
 
     // The state is whole; otherwise it is broken.
     pub fn whole(self) -> bool
         ensures { result ≡ whole (seen self) }
     {
-        let shape = self.shape;
-        let trackers = self.trackers;
-        whole::whole(shape, &self.lines, trackers)
+        whole::whole(self.shape, &self.lines, &self.trackers)
     }
 
-    // Refusals 1 and 2, which come first in fresh and open; 0 for neither.
-    fn unready(n: u64, t: u64, l: u64, bytes: &[u8], memory: &[u8]) -> u8
-        ensures { result ≡ unready n t l bytes.now memory.now }
+    // The shape of n leaves, T trackers and L lines; refusals 1 and 2, which come first in fresh and open.
+    fn ready(n: u64, t: u64, l: u64, bytes: &[u8], memory: &[u8]) -> Result<Shape, Refusal>
+        ensures no { refused_with result ≡ unready n t l bytes.now memory.now }
+        ensures shape { IfOk result (λ s. s ≡ shape_of n t l) }
     {
         if !whole::limits(TOP, n, t, l) {
-            return 1;
+            return Err(Refusal::OutsideLimits);
         }
-        if !step::lengths_right(shaped(n, t, l), bytes, memory) {
-            return 2;
+        let shape = Shape::start(n as u32, t as u32, l as usize);
+        if !step::lengths_right(shape, bytes, memory) {
+            return Err(Refusal::OtherLength);
         }
-        0
+        Ok(shape)
     }
 
     // A fresh memory of n leaves, under T trackers and L lines: refusals 1, 2.
     pub fn fresh(n: u64, t: u64, l: u64, bytes: &[u8], memory: &mut [u8]) -> Out
         ensures { did result bytes.now memory.new ≡ fresh n t l bytes.now memory.old }
     {
-        let c = State::unready(n, t, l, bytes, memory);
-        if 0 < c {
-            return State::none(c);
+        match State::ready(n, t, l, bytes, memory) {
+            Ok(shape) => {
+                memory::clear_map(shape.n, memory);
+                State::begin(shape).accept()
+            }
+            Err(r) => State::none(r),
         }
-        let shape = shaped(n, t, l);
-        memory::clear_map(shape.n, memory);
-        Out {
-            state: State::begin(shape),
-            answer: Answer::Accepted,
-            transfers: Transfers::none(),
+    }
+
+    // The same shape, where the memory is true: refusals 1, 2, 3.
+    fn can_open(n: u64, t: u64, l: u64, bytes: &[u8], memory: &[u8]) -> Result<Shape, Refusal>
+        ensures no { refused_with result ≡ refusal (open_tests (shape_of n t l) bytes.now memory.now) }
+        ensures shape { IfOk result (λ s. s ≡ shape_of n t l) }
+    {
+        let shape = State::ready(n, t, l, bytes, memory)?;
+        if !memory::is_true(shape.n, memory) {
+            return Err(Refusal::NotTrue);
         }
+        Ok(shape)
     }
 
     // A memory of n leaves as it is, under T trackers and L lines: refusals 1, 2, 3.
     pub fn open(n: u64, t: u64, l: u64, bytes: &[u8], memory: &[u8]) -> Out
         ensures { did result bytes.now memory.now ≡ opened n t l bytes.now memory.now }
     {
-        let c = State::unready(n, t, l, bytes, memory);
-        if 0 < c {
-            return State::none(c);
-        }
-        let shape = shaped(n, t, l);
-        if !memory::is_true(shape.n, memory) {
-            return State::none(3);
-        }
-        Out {
-            state: State::begin(shape),
-            answer: Answer::Accepted,
-            transfers: Transfers::none(),
+        match State::can_open(n, t, l, bytes, memory) {
+            Ok(shape) => State::begin(shape).accept(),
+            Err(r) => State::none(r),
         }
     }
 
-    // Refusals 4 and 2, which come first in each call on a state; 0 for neither.
-    fn unfit(self, bytes: &[u8], memory: &[u8]) -> u8
-        ensures { result ≡ unfit (seen self) bytes.now memory.now }
+    // Refusals 4 and 2, which come first in each call on a state.
+    #[tactic(auto, unfolding(laws::specs::Refusal::refusal))]
+    fn fits(self, bytes: &[u8], memory: &[u8]) -> Result<(), Refusal>
+        ensures { refused_with result ≡ unfit (seen self) bytes.now memory.now }
     {
         if !self.whole() {
-            return 4;
+            return Err(Refusal::BrokenState);
         }
-        let shape = self.shape;
-        if !step::lengths_right(shape, bytes, memory) {
-            return 2;
+        if !step::lengths_right(self.shape, bytes, memory) {
+            return Err(Refusal::OtherLength);
         }
-        0
+        Ok(())
     }
 
-    // The refusal of an issue, 4, 2, 5, 6, 7, 13; 0 if none.
-    fn issue_refusal(self, bytes: &[u8], memory: &[u8], x: u64, access: Access) -> u8
-        ensures { result ≡ issue_no (seen self) bytes.now memory.now x access }
+    // Tracker x is issued an access: refusals 4, 2, 5, 6, 7, 13.
+    fn can_issue(self, bytes: &[u8], memory: &[u8], x: u64, access: Access) -> Result<(), Refusal>
+        ensures { refused_with result ≡ issue_no (seen self) bytes.now memory.now x access }
     {
-        let c = self.unfit(bytes, memory);
-        if 0 < c {
-            return c;
-        }
-        let shape = self.shape;
-        let trackers = self.trackers;
-        whole::issue_refusal(shape, x, access, trackers)
+        self.fits(bytes, memory)?;
+        whole::can_issue(self.shape, x, access, &self.trackers)
     }
 
     // An access for tracker x: refusals 4, 2, 5, 6, 7, 13.
     pub fn issue(mut self, bytes: &[u8], memory: &[u8], x: u64, access: Access) -> Out
         ensures { did result bytes.now memory.now ≡ issue (seen self) bytes.now memory.now x access }
     {
-        let c = self.issue_refusal(bytes, memory, x, access);
-        if 0 < c {
-            return self.refuse(c);
+        if let Err(r) = self.can_issue(bytes, memory, x, access) {
+            return self.refuse(r);
         }
-        let k = x as usize;
-        let tracker = Tracker::begin(access);
-        self.trackers[k] = tracker;
-        Out {
-            state: self,
-            answer: Answer::Accepted,
-            transfers: Transfers::none(),
-        }
+        self.trackers[x as usize] = Tracker::begin(access);
+        self.accept()
     }
 
-    // The refusal of a step, 4, 2, 5, 8; 0 if none.
-    fn step_refusal(self, bytes: &[u8], memory: &[u8], x: u64) -> u8
-        ensures { result ≡ step_no (seen self) bytes.now memory.now x }
+    // Tracker x takes a step: refusals 4, 2, 5, 8.
+    fn can_step(self, bytes: &[u8], memory: &[u8], x: u64) -> Result<(), Refusal>
+        ensures { refused_with result ≡ step_no (seen self) bytes.now memory.now x }
     {
-        let c = self.unfit(bytes, memory);
-        if 0 < c {
-            return c;
-        }
-        let shape = self.shape;
-        let trackers = self.trackers;
-        whole::step_refusal(shape, x, trackers)
+        self.fits(bytes, memory)?;
+        whole::can_step(self.shape, x, &self.trackers)
     }
 
     // One step of tracker x: refusals 4, 2, 5, 8.
     pub fn step(mut self, bytes: &mut [u8], memory: &mut [u8], x: u64) -> Out
         ensures { did result bytes.new memory.new ≡ step (seen self) bytes.old memory.old x }
     {
-        let c = self.step_refusal(bytes, memory, x);
-        if 0 < c {
-            return self.refuse(c);
+        if let Err(r) = self.can_step(bytes, memory, x) {
+            return self.refuse(r);
         }
         let k = x as usize;
-        let tracker = self.trackers[k];
-        let shape = self.shape;
-        let r = turn_row(shape, x as u32, tracker, &mut self.lines, bytes, memory);
-        let moved = r.shape;
-        self.shape = moved;
-        let left = r.tracker;
-        self.trackers[k] = left;
-        let answer = r.answer;
-        let transfers = r.transfers;
+        let t = self.trackers[k];
+        let r = step::turn(self.shape, x as u32, t, &mut self.lines, bytes, memory);
+        self.shape = r.shape;
+        self.trackers[k] = r.tracker;
         Out {
             state: self,
-            answer,
-            transfers,
+            answer: r.answer,
+            transfers: r.transfers,
         }
     }
 
-    // The refusal of a drain, 4, 2, 7; 0 if none.
-    fn drain_refusal(self, bytes: &[u8], memory: &[u8]) -> u8
-        ensures { result ≡ drain_no (seen self) bytes.now memory.now }
+    // The lines are drained: refusals 4, 2, 7.
+    fn can_drain(self, bytes: &[u8], memory: &[u8]) -> Result<(), Refusal>
+        ensures { refused_with result ≡ drain_no (seen self) bytes.now memory.now }
     {
-        let c = self.unfit(bytes, memory);
-        if 0 < c {
-            return c;
-        }
-        let shape = self.shape;
-        let trackers = self.trackers;
-        whole::drain_refusal(shape, trackers)
+        self.fits(bytes, memory)?;
+        whole::can_drain(self.shape, &self.trackers)
     }
 
     // The changed lines are written to memory, lowest first, and marked clean: refusals 4, 2, 7.
     pub fn drain(mut self, bytes: &[u8], memory: &mut [u8]) -> Out
         ensures { did result bytes.now memory.new ≡ drain (seen self) bytes.now memory.old }
     {
-        let c = self.drain_refusal(bytes, memory);
-        if 0 < c {
-            return self.refuse(c);
+        if let Err(r) = self.can_drain(bytes, memory) {
+            return self.refuse(r);
         }
-        let shape = self.shape;
-        let transfers = drain_row(shape, &mut self.lines, bytes, memory);
+        let transfers = placing::drain(self.shape, &mut self.lines, bytes, memory);
         Out {
-            state: self,
-            answer: Answer::Accepted,
             transfers,
+            ..self.accept()
         }
     }
 
-    // The refusal of showing leaf k, 4, 2, 6, 7; 0 if none.
-    pub fn show_refusal(self, bytes: &[u8], memory: &[u8], k: u64) -> u8
-        ensures { result ≡ show_no (seen self) bytes.now memory.now k }
+    // Leaf k is shown: refusals 4, 2, 6, 7.
+    pub fn can_show(self, bytes: &[u8], memory: &[u8], k: u64) -> Result<(), Refusal>
+        ensures { refused_with result ≡ show_no (seen self) bytes.now memory.now k }
     {
-        let c = self.unfit(bytes, memory);
-        if 0 < c {
-            return c;
-        }
-        let shape = self.shape;
-        let trackers = self.trackers;
-        whole::show_refusal(shape, k, trackers)
+        self.fits(bytes, memory)?;
+        whole::can_show(self.shape, k, &self.trackers)
     }
 
     // The bit over block k of level e, read in the line of the block that has it if there is one.
+    #[tactic(auto, unfolding(rules::specs::Calls::shown_bit))]
     fn shown_bit(self, bytes: &[u8], memory: &[u8], e: u8, k: u32) -> u8
         requires { (in_limits_of (top_of self.shape) self.shape.n ≡ true) × (e < top_of self.shape) × (self.shape.l ≤ most_lines) }
         ensures { result ≡ shown_bit (seen self) bytes.now memory.now e k }
     {
-        let shape = self.shape;
-        let l = shape.l;
-        let above = Geometry::blocks_of(e, shape.n) + (Geometry::map_block_of(k) as u64);
-        let j = line::line_of(&self.lines, l, above as u32);
-        if j < l {
+        let above = Geometry::blocks_of(e, self.shape.n) + u64::from(Geometry::map_block_of(k));
+        let j = line::line_of(&self.lines, self.shape.l, above as u32);
+        if j < self.shape.l {
             return block::bit_at(
                 bytes,
                 Geometry::BLOCK_LEN * j + Geometry::map_byte_of(k),
                 Geometry::map_bit_of(k),
             );
         }
-        memory::bit_over(e, shape.n, memory, k)
+        memory::bit_over(e, self.shape.n, memory, k)
     }
 
     // Leaf k counts by the bits that are shown, each from the one over it to the top's.
@@ -313,15 +255,12 @@ impl State {
         requires { (in_limits_of (top_of self.shape) self.shape.n ≡ true) × (self.shape.l ≤ most_lines) }
         ensures { result ≡ shown_counts (seen self) bytes.now memory.now (top_of self.shape) 0 k }
     {
-        let top = self.shape.top();
         let mut i = k;
-        let mut e: u8 = 0;
-        while e < top {
+        for e in 0..self.shape.top() {
             if self.shown_bit(bytes, memory, e, i) != 1 {
                 return false;
             }
             i = Geometry::map_block_of(i);
-            e += 1;
         }
         true
     }
@@ -330,20 +269,17 @@ impl State {
     pub fn show<'a>(self, bytes: &'a [u8], memory: &'a [u8], k: u64) -> &'a [u8]
         ensures { result.now ≡ show (seen self) bytes.now memory.now k }
     {
-        if 0 < self.show_refusal(bytes, memory, k) {
-            return &memory[0..0];
+        if self.can_show(bytes, memory, k).is_err() {
+            return &memory[..0];
         }
         let leaf = k as u32;
-        let l = self.shape.l;
-        let i = line::line_of(&self.lines, l, leaf);
-        if i < l {
-            let at = Geometry::BLOCK_LEN * i;
-            return &bytes[at..at + Geometry::BLOCK_LEN];
+        let i = line::line_of(&self.lines, self.shape.l, leaf);
+        if i < self.shape.l {
+            return block_in(bytes, i);
         }
         if self.shown_counts(bytes, memory, leaf) {
-            let at = Geometry::block_place(leaf);
-            return &memory[at..at + Geometry::BLOCK_LEN];
+            return block_in(memory, leaf as usize);
         }
-        &memory[0..0]
+        &memory[..0]
     }
 }

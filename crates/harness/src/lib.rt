@@ -170,9 +170,8 @@ pub fn drain(state: &mut [u64], bytes: &[u8], memory: &mut [u8]) -> u64
 fn shown_at<'a>(s: State, bytes: &'a [u8], memory: &'a [u8], k: u64) -> u64
     ensures { result ≡ shown_at (seen s) bytes.now memory.now k }
 {
-    let c = s.show_refusal(bytes, memory, k);
-    if 0 < c {
-        return refused(c);
+    if let Err(r) = s.can_show(bytes, memory, k) {
+        return refused(u8::from(r));
     }
     let l = s.shape.l;
     let i = line::line_of(&s.lines, l, k as u32);

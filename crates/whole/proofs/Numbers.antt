@@ -4,7 +4,9 @@ use Prim.Native.Nat.{ℕ, ◌<◌}
 use native.Mathlib.Omega.{arith}
 use lib.Dec.{eqb}
 use borrow.Author.Tests.{ne_eqb}
+use mathlib.Core.Bool.{true, false}
 use Rattle.std.specs.Prelude.{Result, Ok, Err}
+use Rattle.std.specs.Result.{is_err}
 use Rattle.laws.specs.Choice.{pick}
 use Rattle.laws.specs.declared.Refusal.{Refusal}
 use Rattle.laws.specs.declared.Refusal.TheVariants.{OutsideLimits, OtherLength, NotTrue, BrokenState, NoTracker, NoGroup, BusyTracker, IdleTracker, NoRoom, WrongCheck, OtherRule, OtherForm, SharedGroup, OtherRun}
@@ -70,3 +72,11 @@ module _ {A : Type 0} {c : ℕ} (a : A) (f : ℕ → A) where
 
   pub unless-refused : (r : Refusal) → number r ≡ c → unless c a f ≡ f (number r)
   unless-refused r e = rw (← e) (unless-no a f (number-some r))
+
+pub some-is_err : (a : Result Unit Refusal) → true ≡ is_err a → 0 < refused_with a
+some-is_err (Ok u) e = cc
+some-is_err (Err r) e = number-some r
+
+pub free-is_err : (a : Result Unit Refusal) → false ≡ is_err a → refused_with a ≡ 0
+free-is_err (Ok u) e = refl
+free-is_err (Err r) e = cc

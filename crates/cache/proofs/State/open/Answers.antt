@@ -1,27 +1,15 @@
 -- `open` meets its contract: refused, or the state begins.
-use mathlib.Core.Path.{sym, ap, ◌∙◌}
-use native.Mathlib.Omega.{arith}
-use Rattle.geometry.specs.declared.Shape.{Shape}
-use Rattle.memory.specs.True.{is_true}
-use Rattle.cache.proofs.Refusals.{ready-limits, open-refused, open-3, open-accepted}
+use mathlib.Core.Path.{sym, ◌∙◌}
+use Rattle.rules.proofs.Begun.{open-accepted}
+use Rattle.cache.proofs.Refusals.{open-no}
 use Rattle.cache.proofs.State.open.Goals as goal
 
-pub returns-then-c-gt0 : goal.returns-then-c-gt0
-returns-then-c-gt0 c =
+pub returns-in-Ok : goal.returns-in-Ok
+returns-in-Ok c =
     let a = c.args in
-    c.none.ensures _ _ ∙ sym (open-refused a.n a.t a.l a.bytes.now a.memory.now c.unready-c.result c.unready-c.ensures (omega arith))
+    c.accept.ensures _ _ ∙ rw (c.begin.ensures, c.in-Ok.ensures.shape) (sym (open-accepted a.n a.t a.l a.bytes.now a.memory.now (sym c.in-Ok.ensures.no)))
 
-pub shaped-shape-requires : goal.shaped-shape-requires
-shaped-shape-requires c =
+pub returns-in-Err : goal.returns-in-Err
+returns-in-Err c =
     let a = c.args in
-    ready-limits a.n a.t a.l a.bytes.now a.memory.now (omega arith)
-
-pub returns-then-not-is_true : goal.returns-then-not-is_true
-returns-then-not-is_true c =
-    let a = c.args in
-    c.none-then-not-is_true.ensures _ _ ∙ sym (open-3 a.n a.t a.l a.bytes.now a.memory.now (omega arith) (ap (λ (z : Shape). is_true z.n a.memory.now) (sym c.shaped-shape.ensures) ∙ sym c.is_true.ensures ∙ c.if-not-is_true.true))
-
-pub returns : goal.returns
-returns c =
-    let a = c.args in
-    rw (c.none-2.ensures, c.begin.ensures, c.shaped-shape.ensures) (sym (open-accepted a.n a.t a.l a.bytes.now a.memory.now (omega arith) (ap (λ (z : Shape). is_true z.n a.memory.now) (sym c.shaped-shape.ensures) ∙ sym c.is_true.ensures ∙ c.if-not-is_true.false)))
+    c.none.ensures _ _ ∙ sym (open-no a.n a.t a.l a.bytes.now a.memory.now c.in-Err.r c.in-Err.ensures.no)

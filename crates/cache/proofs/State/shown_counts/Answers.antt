@@ -4,37 +4,22 @@ use native.Mathlib.Numerals.{add-one}
 use native.Mathlib.Omega.{arith}
 use Rattle.geometry.specs.Shape.{top_of}
 use Rattle.cache.specs.Seen.{seen}
-use Rattle.cache.proofs.Refusals.{counts_up, counts-not, counts-top, counts_all}
+use Rattle.cache.proofs.Refusals.{counts_up, counts-not, counts_all}
 use Rattle.cache.proofs.State.shown_counts.Goals as goal
 
 pub loop-e-init : goal.loop-e-init
 loop-e-init c =
     let a = c.args in
-    (c.top-top.ensures, omega arith, counts_all (seen a.self) a.bytes.now a.memory.now (top_of a.self.shape) a.k)
-
-pub shown_bit-requires : goal.shown_bit-requires
-shown_bit-requires c =
-    (c.requires.0, omega (arith, c.loop-e.invariant.0), c.requires.1)
+    counts_all (seen a.self) a.bytes.now a.memory.now (top_of a.self.shape) a.k
 
 pub returns-then-shown_bit-ne1 : goal.returns-then-shown_bit-ne1
 returns-then-shown_bit-ne1 c =
-    let inv = c.loop-e.invariant in
     let a = c.args in
-    sym (inv.2 ∙ counts-not (seen a.self) a.bytes.now a.memory.now c.loop-e.e c.loop-e.i (top_of a.self.shape) (omega (arith, inv.0)) (λ q. c.if-shown_bit-ne1.true (c.shown_bit.ensures ∙ q)))
+    sym (c.loop-e.invariant ∙ counts-not (seen a.self) a.bytes.now a.memory.now c.loop-e.e c.loop-e.i (top_of a.self.shape) (omega (arith, c.top-e-end.ensures)) (λ q. c.if-shown_bit-ne1.true (c.shown_bit.ensures ∙ q)))
 
 pub loop-e-preserved : goal.loop-e-preserved
 loop-e-preserved c =
-    let inv = c.loop-e.invariant in
     let a = c.args in
-    let one = sym c.shown_bit.ensures ∙ c.if-shown_bit-ne1.false in (
-      inv.0,
-      omega arith,
-      inv.2 ∙ counts_up (seen a.self) a.bytes.now a.memory.now c.loop-e.e c.loop-e.i (top_of a.self.shape) (omega (arith, inv.0)) one
-          ∙ rw (add-one, c.map_block_of-i.ensures) refl,
-    )
-
-pub returns : goal.returns
-returns c =
-    let inv = c.loop-e.invariant in
-    let a = c.args in
-    sym (inv.2 ∙ counts-top (seen a.self) a.bytes.now a.memory.now c.loop-e.e c.loop-e.i (top_of a.self.shape) (omega (arith, inv.0)))
+    c.loop-e.invariant
+    ∙ counts_up (seen a.self) a.bytes.now a.memory.now c.loop-e.e c.loop-e.i (top_of a.self.shape) (omega (arith, c.top-e-end.ensures)) (sym c.shown_bit.ensures ∙ c.if-shown_bit-ne1.false)
+    ∙ rw (add-one, c.map_block_of-i.ensures) refl
