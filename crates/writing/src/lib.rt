@@ -14,6 +14,17 @@ ghost use Rattle.laws.specs.Refusal.{refused_with, given};
 use geometry::Geometry;
 use laws::Refusal;
 
+// A memory of n leaves, of the length that is theirs, with the number of leaves with bit 1.
+#[derive(Clone, Copy)]
+struct Source<'a> {
+    n: u32,
+    memory: &'a [u8],
+    m: u32,
+    ghost limit: { n ≤ 262144 },
+    ghost sized: { length memory.now ≡ memory_length n },
+    ghost counted: { m ≡ length (records_of n memory.now) },
+}
+
 // The leaf after j and the others of its word of the map, or n.
 fn past_word(n: u32, j: u32) -> u32
     requires { j < n }
@@ -72,21 +83,6 @@ pub fn put_record(row: &mut [u8], at: usize, leaf: u32, content: &[u8; Geometry:
     block::write_block(row, at + 4, content);
 }
 
-// The next `count` records into a block, from leaf k on. Gives the leaf after the last one.
-fn put_records(row: &mut [u8], count: usize, n: u32, memory: &[u8], k: u32) -> u32
-    requires { (length row.old ≡ 512) × (count ≤ 7) × (length memory.now ≡ memory_length n) × (k ≤ n) × (length (records_below n memory.now k) + count ≤ length (records_of n memory.now)) }
-    ensures { (row.new ≡ splice row.old 8 (records_bytes (records_of n memory.now) (length (records_below n memory.now k)) count)) × (result ≤ n) × (length (records_below n memory.now result) ≡ length (records_below n memory.now k) + count) }
-{
-    let mut next = k;
-    for i in 0..count {
-        let found = next_marked(n, memory, next);
-        let leaf = block::read_block(memory, Geometry::block_place(found));
-        put_record(row, image::RECORDS + image::RECORD * i, found, &leaf);
-        next = found + 1;
-    }
-    next
-}
-
 // The front of record block j.
 fn put_front(row: &mut [u8], j: u32, count: u16)
     requires { length row.old ≡ 512 }
@@ -105,19 +101,9 @@ pub fn close_block(row: &mut [u8], j: u32, count: u16)
         return;
     }
     put_front(row, j, count);
-    let at = image::RECORDS + image::RECORD * (count as usize);
+    let at = image::RECORDS + image::RECORD * usize::from(count);
     image::clear(row, at, image::CHECK - at);
     sums::seal(row);
-}
-
-// Record block j with the next `count` records, from leaf k on. Gives the leaf after the last one.
-fn put_block(row: &mut [u8], j: u32, count: u16, n: u32, memory: &[u8], k: u32) -> u32
-    requires { (length row.old ≡ 512) × (count ≤ 7) × (length memory.now ≡ memory_length n) × (k ≤ n) × (length (records_below n memory.now k) + count ≤ length (records_of n memory.now)) }
-    ensures { (row.new ≡ block_of 65536 j (records_of n memory.now) (length (records_below n memory.now k)) count) × (result ≤ n) × (length (records_below n memory.now result) ≡ length (records_below n memory.now k) + count) }
-{
-    let next = put_records(row, count as usize, n, memory, k);
-    close_block(row, j, count);
-    next
 }
 
 // The row made the head; a row that is no block stays as it was.
@@ -136,33 +122,53 @@ pub fn put_head(row: &mut [u8], n: u32, m: u32)
     sums::seal(row);
 }
 
-// The record blocks of m leaves with bit 1, from block 1 on.
-fn put_blocks(output: &mut [u8], n: u32, memory: &[u8], m: u32)
-    requires { (512 * (1 + blocks_for m) ≤ length output.old) × (length memory.now ≡ memory_length n) × (n ≤ 262144) × (m ≤ n) × (m ≡ length (records_of n memory.now)) }
-    ensures { output.new ≡ splice output.old 512 (record_blocks 65536 (records_of n memory.now) (blocks_for m)) }
-{
-    let mut k = 0;
-    for j in 0..m.div_ceil(7) {
-        let count = (m - 7 * j).min(7) as u16;
-        let at = image::BLOCK * (j as usize + 1);
-        k = put_block(
-            &mut output[at..at + image::BLOCK],
-            j + 1,
-            count,
-            n,
-            memory,
-            k,
-        );
+impl Source<'_> {
+    // The next `count` records into a block, from leaf k on. Gives the leaf after the last one.
+    fn put_records(&self, row: &mut [u8], count: usize, k: u32) -> u32
+        requires { (length row.old ≡ 512) × (count ≤ 7) × (k ≤ self.now.n) × (length (records_below self.now.n self.now.memory.now k) + count ≤ self.now.m) }
+        ensures { (row.new ≡ splice row.old 8 (records_bytes (records_of self.now.n self.now.memory.now) (length (records_below self.now.n self.now.memory.now k)) count)) × (result ≤ self.now.n) × (length (records_below self.now.n self.now.memory.now result) ≡ length (records_below self.now.n self.now.memory.now k) + count) }
+    {
+        let mut next = k;
+        for i in 0..count {
+            let found = next_marked(self.n, self.memory, next);
+            let leaf = block::read_block(self.memory, Geometry::block_place(found));
+            put_record(row, image::RECORDS + image::RECORD * i, found, &leaf);
+            next = found + 1;
+        }
+        next
     }
-}
 
-// The image of a memory of n leaves, m of them with bit 1, into an output that has room.
-fn put_image(output: &mut [u8], n: u32, memory: &[u8], m: u32)
-    requires { (512 * (1 + blocks_for m) ≤ length output.old) × (length memory.now ≡ memory_length n) × (n ≤ 262144) × (m ≤ n) × (m ≡ length (records_of n memory.now)) }
-    ensures { output.new ≡ splice output.old 0 (image_of n memory.now) }
-{
-    put_head(&mut output[0..image::BLOCK], n, m);
-    put_blocks(output, n, memory, m);
+    // Record block j with the next `count` records, from leaf k on. Gives the leaf after the last one.
+    fn put_block(&self, row: &mut [u8], j: u32, count: u16, k: u32) -> u32
+        requires { (length row.old ≡ 512) × (count ≤ 7) × (k ≤ self.now.n) × (length (records_below self.now.n self.now.memory.now k) + count ≤ self.now.m) }
+        ensures { (row.new ≡ block_of 65536 j (records_of self.now.n self.now.memory.now) (length (records_below self.now.n self.now.memory.now k)) count) × (result ≤ self.now.n) × (length (records_below self.now.n self.now.memory.now result) ≡ length (records_below self.now.n self.now.memory.now k) + count) }
+    {
+        let next = self.put_records(row, usize::from(count), k);
+        close_block(row, j, count);
+        next
+    }
+
+    // The record blocks, from block 1 on.
+    fn put_blocks(&self, output: &mut [u8])
+        requires { 512 * (1 + blocks_for self.now.m) ≤ length output.old }
+        ensures { output.new ≡ splice output.old 512 (record_blocks 65536 (records_of self.now.n self.now.memory.now) (blocks_for self.now.m)) }
+    {
+        let mut k = 0;
+        for j in 0..self.m.div_ceil(7) {
+            let count = (self.m - 7 * j).min(7) as u16;
+            let at = image::BLOCK * (j as usize + 1);
+            k = self.put_block(&mut output[at..at + image::BLOCK], j + 1, count, k);
+        }
+    }
+
+    // The image, into an output that has room.
+    fn put_image(&self, output: &mut [u8])
+        requires { 512 * (1 + blocks_for self.now.m) ≤ length output.old }
+        ensures { output.new ≡ splice output.old 0 (image_of self.now.n self.now.memory.now) }
+    {
+        put_head(&mut output[0..image::BLOCK], self.n, self.m);
+        self.put_blocks(output);
+    }
 }
 
 // The length of an image of m records.
@@ -191,6 +197,11 @@ pub fn write_image(n: u64, memory: &[u8], output: &mut [u8]) -> Result<u64, Refu
     if output.len() < long {
         return Err(Refusal::NoRoom);
     }
-    put_image(output, leaves, memory, m);
+    let source = Source {
+        n: leaves,
+        memory,
+        m,
+    };
+    source.put_image(output);
     Ok(long as u64)
 }

@@ -4,10 +4,8 @@ use native.Mathlib.Omega.{arith}
 use lib.ListN.{length}
 use Rattle.geometry.specs.TagMemory.{memory_length}
 use Rattle.geometry.proofs.Limits.{in_limits-most}
-use Rattle.form.proofs.Records.{length-below}
 use Rattle.form.specs.Encode.{image_of}
 use Rattle.form.proofs.Refusals.{length-image, refusal-1, refusal-2, refusal-3, refusal-9, refusal-none, refused, accepted}
-use borrow.Author.Rules.{rules}
 use Rattle.writing.proofs.write_image.Goals as goal
 
 pub returns-then-not-in_limits : goal.returns-then-not-in_limits
@@ -48,10 +46,15 @@ returns-then-output-long c = let a = c.args in
     (r.0, sym e, r.1)
 
 pub put_image-requires : goal.put_image-requires
-put_image-requires c = let a = c.args in
-    let h = in_limits-most 1 _ (sym c.in_limits.ensures ∙ c.if-not-in_limits.false) in
-    let l : length a.memory.now ≡ memory_length a.n = (omega (arith, c.memory_length.ensures)) in
-    (search rules, l, omega arith, omega (arith, c.count_marked-m.ensures, length-below a.n a.memory.now a.n), c.count_marked-m.ensures)
+put_image-requires c = omega (arith, c.length_for-long.ensures)
+
+pub invariant_of-source : goal.invariant_of-source
+invariant_of-source c =
+    record {
+      limit = in_limits-most 1 _ (sym c.in_limits.ensures ∙ c.if-not-in_limits.false);
+      sized = omega (arith, c.memory_length.ensures);
+      counted = c.count_marked-m.ensures;
+    }
 
 pub returns : goal.returns
 returns c = let a = c.args in
