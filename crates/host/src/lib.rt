@@ -11,7 +11,7 @@ ghost use Rattle.form.specs.Test.{image_test};
 pub extern "C" fn tag_plain_read(n: u64, memory: &[u8], group: u64) -> u64
     ensures { result ≡ plain_reading n memory.now group }
 {
-    memory::plain_reading(n, memory, group)
+    laws::given(memory::plain_reading(n, memory, group).map(u64::from))
 }
 
 // The image test: 0, or 10 or 11.
@@ -27,7 +27,7 @@ pub extern "C" fn tag_image_test(image: &[u8]) -> u64
 pub extern "C" fn tag_first_tagged(n: u64, memory: &[u8], a: u64, b: u64) -> u64
     ensures { result ≡ group_number (between n memory.now a b) }
 {
-    tagged::first_tagged(n, memory, a, b)
+    tagged::group_given(tagged::first_tagged(n, memory, a, b))
 }
 
 // The number of tagged leaves from a's leaf to that of group b - 1, or 4,294,967,296 plus the refusal.
@@ -35,7 +35,7 @@ pub extern "C" fn tag_first_tagged(n: u64, memory: &[u8], a: u64, b: u64) -> u64
 pub extern "C" fn tag_tagged_leaves(n: u64, memory: &[u8], a: u64, b: u64) -> u64
     ensures { result ≡ leaves_number (between n memory.now a b) }
 {
-    tagged::tagged_leaves(n, memory, a, b)
+    laws::given(tagged::tagged_leaves(n, memory, a, b).map(u64::from))
 }
 
 // `tag_first_tagged` with the memory taken as true: never refusal 3.
@@ -43,7 +43,7 @@ pub extern "C" fn tag_tagged_leaves(n: u64, memory: &[u8], a: u64, b: u64) -> u6
 pub extern "C" fn tag_first_tagged_as_true(n: u64, memory: &[u8], a: u64, b: u64) -> u64
     ensures { result ≡ group_number (between_as_true n memory.now a b) }
 {
-    tagged::first_tagged_as_true(n, memory, a, b)
+    tagged::group_given(tagged::first_tagged_as_true(n, memory, a, b))
 }
 
 // `tag_tagged_leaves` with the memory taken as true: never refusal 3.
@@ -51,5 +51,5 @@ pub extern "C" fn tag_first_tagged_as_true(n: u64, memory: &[u8], a: u64, b: u64
 pub extern "C" fn tag_tagged_leaves_as_true(n: u64, memory: &[u8], a: u64, b: u64) -> u64
     ensures { result ≡ leaves_number (between_as_true n memory.now a b) }
 {
-    tagged::tagged_leaves_as_true(n, memory, a, b)
+    laws::given(tagged::tagged_leaves_as_true(n, memory, a, b).map(u64::from))
 }

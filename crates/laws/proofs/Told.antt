@@ -62,6 +62,22 @@ number-some OtherForm = omega arith
 number-some SharedGroup = omega arith
 number-some OtherRun = omega arith
 
+pub number-most : (r : Refusal) → number r ≤ 15
+number-most OutsideLimits = omega arith
+number-most OtherLength = omega arith
+number-most NotTrue = omega arith
+number-most BrokenState = omega arith
+number-most NoTracker = omega arith
+number-most NoGroup = omega arith
+number-most BusyTracker = omega arith
+number-most IdleTracker = omega arith
+number-most NoRoom = omega arith
+number-most WrongCheck = omega arith
+number-most OtherRule = omega arith
+number-most OtherForm = omega arith
+number-most SharedGroup = omega arith
+number-most OtherRun = omega arith
+
 pub refused-one : (r s : Result Unit Refusal) → refused_with r ≡ refused_with s → r ≡ s
 refused-one (Ok u) (Ok v) e = refl
 refused-one (Ok u) (Err q) e = absurd (omega (arith, number-some q))

@@ -2,7 +2,7 @@
 // No public function has a `requires`: a byte that is not there reads as zero, and a refusal names what was wrong.
 #![tactic(auto, unfolding(crate::specs::PlainReading::plain_group, crate::specs::PlainReading::plain_reading, crate::specs::True::is_true, crate::specs::True::cleared_map, crate::specs::True::map_word))]
 
-ghost use Rattle.std.specs.Prelude.{◌≡◌, ◌+◌, ◌-◌, ◌*◌, ◌≤◌, ◌<◌, length};
+ghost use Rattle.std.specs.Prelude.{◌≡◌, ◌+◌, ◌-◌, ◌*◌, ◌≤◌, ◌<◌, length, IfOk};
 ghost use Rattle.laws.specs.Refusal.{refusal, refused_with, given};
 ghost use Rattle.geometry.specs.TagMemory.{count, base, block_place};
 ghost use Rattle.memory.specs.PlainReading.{bit_over, next_marked, counts, plain_group_of, plain_group, sized_of, sized, plain_reading_of, plain_reading};
@@ -75,7 +75,8 @@ pub fn fits(n: u64, memory: &[u8]) -> Result<(), Refusal>
 
 // Group g in a memory of this top level. Refused 1 for n, 2 for the length, 6 for the group.
 pub fn plain_reading_of(top: u8, n: u64, memory: &[u8], g: u64) -> Result<u32, Refusal>
-    ensures { given result ≡ plain_reading_of top n memory.now g }
+    ensures told { given result ≡ plain_reading_of top n memory.now g }
+    ensures fits { IfOk result (λ v. v < 4294967296) }
 {
     fits_of(top, n, memory)?;
     if Geometry::groups(n as u32) <= g {
@@ -86,7 +87,8 @@ pub fn plain_reading_of(top: u8, n: u64, memory: &[u8], g: u64) -> Result<u32, R
 
 // The same of a memory of two levels.
 pub fn plain_reading(n: u64, memory: &[u8], g: u64) -> Result<u32, Refusal>
-    ensures { given result ≡ plain_reading n memory.now g }
+    ensures told { given result ≡ plain_reading n memory.now g }
+    ensures fits { IfOk result (λ v. v < 4294967296) }
 {
     plain_reading_of(1, n, memory, g)
 }

@@ -1,13 +1,14 @@
 -- The refusals, a law for each way out, and what an answer says of its numbers.
-use mathlib.Core.Path.{◌≡◌, refl, sym, ◌∙◌}
-use mathlib.Core.Bool.{true, false}
+use mathlib.Core.Path.{◌≡◌, refl, ap, sym, ◌∙◌}
+use mathlib.Core.Bool.{Bool, true, false}
 use mathlib.Core.List.{List, [], ◌∷◌, ◌++◌}
 use Prim.Native.Nat.{ℕ, ◌+◌, ◌-◌, ◌≤◌, ◌<◌}
 use native.Mathlib.Omega.{arith}
 use lib.Dec.{ltb, leb}
 use lib.ListN.{length}
 use borrow.Author.Tests.{eq-eqb, ne_eqb, lt-ltb, le-ltb, le-leb, lt-leb, leb-true}
-use Rattle.laws.specs.Choice.{both}
+use Rattle.std.specs.Prelude.{Option, Some, None, Ok}
+use Rattle.laws.specs.Choice.{pick, both}
 use Rattle.laws.specs.Refusal.{refusal}
 use Rattle.laws.proofs.Choice.{both_true, both_left, both_right, both-false-left, both-false-right}
 use Rattle.laws.proofs.Refusals.{Hold, refusal-0, refusal-hold, refusal-first, refusal-then, refusal-past, unless-0, unless-no}
@@ -17,8 +18,7 @@ use Rattle.geometry.proofs.Places.{groups-most}
 use Rattle.memory.specs.PlainReading.{sized}
 use Rattle.memory.specs.True.{is_true}
 use Rattle.memory.proofs.Sized.{sized-hold, small, long}
-use Rattle.tagged.specs.declared.Tagged.{Tagged}
-use Rattle.tagged.specs.Tagged.{is_marked, lowest, leaves_from, inside, tests, tests_as_true, said, refused, between, between_as_true, group_number, leaves_number}
+use Rattle.tagged.specs.Tagged.{Told, told, found_or_not, group_given, is_marked, lowest, leaves_from, inside, tests, tests_as_true, said, refused, between, between_as_true, group_number, leaves_number}
 
 module _ (n a b : ℕ) where
   pub inside-after : b < a → refusal (inside n a b) ≡ 6
@@ -38,6 +38,15 @@ module _ (n a b : ℕ) where
 
   not-over : refusal (inside n a b) ≡ 0 → b ≤ groups n
   not-over e = leb-true b (groups n) (both_right (leb a b) (leb b (groups n)) (inside-hold e))
+
+-- an answer by a test: the group where it holds, else none
+as_found : (t : Bool) (x k : ℕ) → found_or_not (pick t (Some x) None) k ≡ record { refusal = 0; found = t; group = pick t x 0; leaves = k }
+as_found true x k = refl
+as_found false x k = refl
+
+as_number : (t : Bool) (x : ℕ) → group_given (Ok (pick t (Some x) None)) ≡ pick t (pick t x 0) 8589934592
+as_number true x = refl
+as_number false x = refl
 
 -- numbers that fit the code
 pub record Fit (n : ℕ) (m : List ℕ) (a b : ℕ) : Type 0 where
@@ -124,6 +133,35 @@ module _ (n : ℕ) (m : List ℕ) (a b : ℕ) where
   unfolding between
   between_none z l k e h f = unless-0 (said n m a b) refused z ∙ rw (none_is l e h, sym f)
 
+  -- the lowest group, where there is one
+  pub lowest-found : (l : ℕ) → l ≡ lowest n m a b → l < b → Some l ≡ pick (ltb (lowest n m a b) b) (Some (lowest n m a b)) None
+  lowest-found l e h = rw (found-is l e h) (ap Some e)
+
+  pub lowest-none : (l : ℕ) → l ≡ lowest n m a b → b ≤ l → None ≡ pick (ltb (lowest n m a b) b) (Some (lowest n m a b)) None
+  lowest-none l e h = rw (none_is l e h)
+
+  -- what the calls answer where nothing is refused: o is the lowest group, k counts the leaves
+  module _ (o : Option ℕ) (e : o ≡ pick (ltb (lowest n m a b) b) (Some (lowest n m a b)) None) where
+    pub told-said : refusal (tests n m a b) ≡ 0 → (k : ℕ) → k ≡ leaves_from n m a b → told (Ok (record { group = o; leaves = k })) ≡ between n m a b
+    unfolding between
+    told-said z k f = rw (e, f) (as_found (ltb (lowest n m a b) b) (lowest n m a b) (leaves_from n m a b)) ∙ sym (unless-0 (said n m a b) refused z)
+
+    pub number-said : refusal (tests n m a b) ≡ 0 → group_given (Ok o) ≡ group_number (between n m a b)
+    unfolding between group_number
+    number-said z = rw (e, unless-0 {c = refusal (tests n m a b)} (said n m a b) refused z) (as_number (ltb (lowest n m a b) b) (lowest n m a b))
+
+    pub number-as-true : refusal (tests_as_true n m a b) ≡ 0 → group_given (Ok o) ≡ group_number (between_as_true n m a b)
+    unfolding between_as_true group_number
+    number-as-true z = rw (e, unless-0 {c = refusal (tests_as_true n m a b)} (said n m a b) refused z) (as_number (ltb (lowest n m a b) b) (lowest n m a b))
+
+  pub leaves-said : refusal (tests n m a b) ≡ 0 → leaves_number (between n m a b) ≡ leaves_from n m a b
+  unfolding between leaves_number
+  leaves-said z = rw (unless-0 {c = refusal (tests n m a b)} (said n m a b) refused z)
+
+  pub leaves-none-said : (c : ℕ) → c ≡ refusal (tests n m a b) → 0 < c → leaves_number (between n m a b) ≡ 4294967296 + c
+  unfolding leaves_number
+  leaves-none-said c e h = rw (between-no c e h, ne_eqb c 0 (λ z. absurd (omega arith)))
+
   -- of a true memory both calls answer the same
   pub as-true-same : is_true n m ≡ true → between_as_true n m a b ≡ between n m a b
   unfolding between between_as_true refusal
@@ -155,7 +193,7 @@ module _ (n : ℕ) (m : List ℕ) (a b : ℕ) where
   leaves-is z = rw (unless-0 {c = refusal (tests_as_true n m a b)} (said n m a b) refused z)
 
 -- the same numbers of any answer
-module _ (t : Tagged) where
+module _ (t : Told) where
   pub count_no : (t.refusal ≡ 0 → ⊥) → leaves_number t ≡ 4294967296 + t.refusal
   unfolding leaves_number
   count_no h = rw (ne_eqb t.refusal 0 h)

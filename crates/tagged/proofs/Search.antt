@@ -1,5 +1,5 @@
 -- The search for the lowest tagged group goes by leaves with a mark: between them every group reads zero.
-use mathlib.Core.Path.{◌≡◌, ap, sym, ◌∙◌}
+use mathlib.Core.Path.{◌≡◌, refl, ap, sym, ◌∙◌}
 use mathlib.Core.Bool.{true}
 use mathlib.Core.List.{List}
 use mathlib.Core.Logic.{⊎_elim}
@@ -11,9 +11,9 @@ use Rattle.laws.proofs.Splice.{lt-or-ge}
 use Rattle.geometry.specs.TagMemory.{leaf_of, groups, group_place}
 use Rattle.geometry.proofs.Places.{leaf_of-lt, leaf_of-ge, leaf_of-≤, groups-≤, groups-leaf_of, group-lt}
 use Rattle.block.specs.Block.{group_at}
-use Rattle.memory.specs.PlainReading.{leaf_bit}
+use Rattle.memory.specs.PlainReading.{marked, next_marked}
 use Rattle.tagged.specs.Tagged.{is_tagged, is_marked}
-use Rattle.tagged.proofs.Marked.{marked-is, marked-not, untagged, zero-bytes, other-bytes}
+use Rattle.tagged.proofs.Marked.{untagged, zero-bytes, other-bytes}
 
 -- the leaf of a group between a leaf's first group and the next leaf's
 pub leaf_of-is : (k g : ℕ) → groups k ≤ g → g < groups (k + 1) → leaf_of g ≡ k
@@ -35,16 +35,9 @@ module _ (n : ℕ) (m : List ℕ) where
       untagged n m c (first_from-before (is_marked n m) (leaf_of g) end (leaf_of c) (leaf_of-≤ g c q) (omega arith)))
       (λ (l : groups k ≤ c). absurd (let u : upto ≤ c = f c q l in omega arith)) (lt-or-ge c (groups k)))
 
-  -- past leaves without mark
-  pub skip-leaves : (k j end : ℕ) → k ≤ j → ((x : ℕ) → k ≤ x → x < j → leaf_bit n m x ≡ 0) → first_from (is_marked n m) j end ≡ first_from (is_marked n m) k end
-  skip-leaves k j end h z = first_from-skip (is_marked n m) k j end h (λ c q r. marked-not n m c (λ o. absurd (omega (arith, z c q r))))
-
-  pub hit-leaf : (k end : ℕ) → k < end → leaf_bit n m k ≡ 1 → first_from (is_marked n m) k end ≡ k
-  hit-leaf k end l h = first_from-hit (is_marked n m) k end l (marked-is n m k h)
-
-  -- the end is reached
-  pub no-leaf : (k end : ℕ) → end ≤ k → first_from (is_marked n m) k end ≡ end
-  no-leaf k end h = first_from-none (is_marked n m) k end (λ c q r. absurd (omega arith))
+  pub next-leaf : (k end : ℕ) → next_marked n m k end ≡ first_from (is_marked n m) k end
+  unfolding next_marked marked is_marked
+  next-leaf k end = refl
 
   -- among the groups of a leaf with a mark
   module _ (k g b at v : ℕ) (h : groups k ≤ g) (l : g < b) (u : b ≤ groups (k + 1)) (t : is_marked n m k ≡ true)

@@ -25,36 +25,12 @@ struct Source<'a> {
     ghost counted: { m ≡ length (records_of n memory.now) },
 }
 
-// The leaf after j and the others of its word of the map, or n.
-fn past_word(n: u32, j: u32) -> u32
-    requires { j < n }
-    ensures { (j < result) × (result ≤ n) × (result ≤ j / 32 * 32 + 32) }
-{
-    let left = memory::WORD_BITS - j % memory::WORD_BITS;
-    if n - j <= left {
-        return n;
-    }
-    j + left
-}
-
-// The first leaf from k on with bit 1, or n. The map is read by words: what is zero of one, from k's bit on, is passed over at once.
+// The first leaf from k on with bit 1, or n.
 fn next_marked(n: u32, memory: &[u8], k: u32) -> u32
     requires { (k ≤ n) × (length memory.now ≡ memory_length n) }
     ensures { (k ≤ result) × (result ≤ n) × (records_below n memory.now result ≡ records_below n memory.now k) × (result < n → leaf_bit n memory.now result ≡ 1) }
 {
-    let mut j = k;
-    while j < n {
-        let rest = memory::map_word(n, memory, j / memory::WORD_BITS) >> (j % memory::WORD_BITS);
-        if rest != 0 {
-            let zeros = u32::trailing_zeros(rest);
-            if n - j <= zeros {
-                return n;
-            }
-            return j + zeros;
-        }
-        j = past_word(n, j);
-    }
-    j
+    memory::next_marked(n, memory, k, n)
 }
 
 // The number of leaves with bit 1 of a true memory: the ones of its map, a word at a time.
@@ -62,12 +38,9 @@ fn count_marked(n: u32, memory: &[u8]) -> u32
     requires { (n ≤ 262144) × (length memory.now ≡ memory_length n) × (is_true n memory.now ≡ true) }
     ensures { result ≡ length (records_of n memory.now) }
 {
-    let end = (n + (memory::WORD_BITS - 1)) / memory::WORD_BITS;
     let mut m: u32 = 0;
-    let mut i: u32 = 0;
-    while i < end {
-        m += u32::count_ones(memory::map_word(n, memory, i));
-        i += 1;
+    for i in 0..n.div_ceil(memory::WORD_BITS) {
+        m += memory::map_word(n, memory, i).count_ones();
     }
     m
 }

@@ -1,13 +1,20 @@
--- A refusal; else the memory is true, and the answer is that of a memory taken as true.
-use mathlib.Core.Path.{ap, sym, ◌∙◌}
-use native.Mathlib.Omega.{arith}
-use Rattle.tagged.specs.Tagged.{group_number}
-use Rattle.tagged.proofs.Refusals.{number-no, true-if, as-true-same}
+-- The group, or why not.
+use mathlib.Core.Path.{◌≡◌, sym, ◌∙◌}
+use Prim.Native.Nat.{◌+◌}
+use borrow.Author.Rules.{rules}
+use Rattle.laws.specs.Refusal.{number}
+use Rattle.laws.proofs.Told.{number-some}
+use Rattle.tagged.specs.Tagged.{group_given}
+use Rattle.tagged.proofs.Refusals.{number-no, number-said}
 use Rattle.tagged.proofs.first_tagged.Goals as goal
 
-pub returns-then-c-gt0 : goal.returns-then-c-gt0
-returns-then-c-gt0 c = let a = c.args in sym (number-no a.n a.memory.now a.a a.b c.refusal-c.result c.refusal-c.ensures c.if-c-gt0.true)
+pub returns-in_err-new : goal.returns-in_err-new
+returns-in_err-new c =
+    let some = number-some c.in_err-new.field-0.0 in
+    let told : group_given c.from_residual.result ≡ 4294967296 + number c.in_err-new.field-0.0 = search rules in
+    told ∙ sym (number-no _ _ _ _ _ c.in_err-new.ensures.told some)
 
 pub returns : goal.returns
-returns c = let a = c.args in
-    c.first_tagged_as_true.ensures ∙ ap group_number (as-true-same a.n a.memory.now a.a a.b (true-if a.n a.memory.now a.a a.b (omega (arith, c.refusal-c.ensures))))
+returns c =
+    let ok = c.in_ok-new.ensures in
+    number-said _ _ _ _ _ (rw (ok.same.0, ok.same.1, ok.same.2, ok.same.3) at c.lowest.ensures) (sym ok.told)

@@ -1,30 +1,20 @@
--- A refusal, the lowest group, or none.
-use mathlib.Core.Path.{sym}
-use native.Mathlib.Omega.{arith}
-use Rattle.tagged.proofs.Refusals.{Fit, fit-as-true, group-no, group-found, group-none}
+-- The group, or why not.
+use mathlib.Core.Path.{◌≡◌, sym, ◌∙◌}
+use Prim.Native.Nat.{◌+◌}
+use borrow.Author.Rules.{rules}
+use Rattle.laws.specs.Refusal.{number}
+use Rattle.laws.proofs.Told.{number-some}
+use Rattle.tagged.specs.Tagged.{group_given}
+use Rattle.tagged.proofs.Refusals.{group-no, number-as-true}
 use Rattle.tagged.proofs.first_tagged_as_true.Goals as goal
 
-pub returns-then-c-gt0 : goal.returns-then-c-gt0
-returns-then-c-gt0 c = let a = c.args in sym (group-no a.n a.memory.now a.a a.b c.refusal_as_true-c.result c.refusal_as_true-c.ensures c.if-c-gt0.true)
-
-pub overflow_cast-n : goal.overflow_cast-n
-overflow_cast-n c = let a = c.args in
-    let f : Fit a.n a.memory.now a.a a.b = fit-as-true a.n a.memory.now a.a a.b (omega arith) in omega arith
-
-pub overflow_cast-a : goal.overflow_cast-a
-overflow_cast-a c = let a = c.args in
-    let f : Fit a.n a.memory.now a.a a.b = fit-as-true a.n a.memory.now a.a a.b (omega arith) in omega arith
-
-pub overflow_cast-b : goal.overflow_cast-b
-overflow_cast-b c = let a = c.args in
-    let f : Fit a.n a.memory.now a.a a.b = fit-as-true a.n a.memory.now a.a a.b (omega arith) in omega arith
-
-pub lowest-low-requires : goal.lowest-low-requires
-lowest-low-requires c = let a = c.args in
-    let f : Fit a.n a.memory.now a.a a.b = fit-as-true a.n a.memory.now a.a a.b (omega arith) in (f.ordered, f.within, f.few, f.long)
-
-pub returns-then-low-b : goal.returns-then-low-b
-returns-then-low-b c = let a = c.args in sym (group-found a.n a.memory.now a.a a.b (omega arith) c.lowest-low.result c.lowest-low.ensures c.if-low-b.true)
+pub returns-in_err-as_true : goal.returns-in_err-as_true
+returns-in_err-as_true c =
+    let some = number-some c.in_err-as_true.field-0.0 in
+    let told : group_given c.from_residual.result ≡ 4294967296 + number c.in_err-as_true.field-0.0 = search rules in
+    told ∙ sym (group-no _ _ _ _ _ c.in_err-as_true.ensures.told some)
 
 pub returns : goal.returns
-returns c = let a = c.args in sym (group-none a.n a.memory.now a.a a.b (omega arith) c.lowest-low.result c.lowest-low.ensures c.if-low-b.false)
+returns c =
+    let ok = c.in_ok-as_true.ensures in
+    number-as-true _ _ _ _ _ (rw (ok.same.0, ok.same.1, ok.same.2, ok.same.3) at c.lowest.ensures) (sym ok.told)

@@ -1,11 +1,19 @@
--- The number of the answer, case by case.
-use mathlib.Core.Path.{ap, sym, ◌∙◌}
-use Rattle.tagged.specs.Tagged.{leaves_number}
-use Rattle.tagged.proofs.Refusals.{count_no, count-is}
+-- The leaves, or why not.
+use mathlib.Core.Path.{◌≡◌, sym, ◌∙◌}
+use Prim.Native.Nat.{◌+◌}
+use borrow.Author.Rules.{rules}
+use Rattle.laws.specs.Refusal.{number, given}
+use Rattle.laws.proofs.Told.{number-some}
+use Rattle.tagged.proofs.Refusals.{leaves-none-said, leaves-said}
 use Rattle.tagged.proofs.tagged_leaves.Goals as goal
 
-pub returns-then-told-ne0 : goal.returns-then-told-ne0
-returns-then-told-ne0 c = sym (count_no c.between-told.result c.if-told-ne0.true) ∙ ap leaves_number c.between-told.ensures
+pub returns-in_err-new : goal.returns-in_err-new
+returns-in_err-new c =
+    let some = number-some c.in_err-new.field-0.0 in
+    let told : given c.from_residual.result ≡ 4294967296 + number c.in_err-new.field-0.0 = search rules in
+    told ∙ sym (leaves-none-said _ _ _ _ _ c.in_err-new.ensures.told some)
 
 pub returns : goal.returns
-returns c = sym (count-is c.between-told.result c.if-told-ne0.false) ∙ ap leaves_number c.between-told.ensures
+returns c =
+    let ok = c.in_ok-new.ensures in
+    (rw (ok.same.0, ok.same.1, ok.same.2, ok.same.3) at c.leaves.ensures) ∙ sym (leaves-said _ _ _ _ (sym ok.told))
