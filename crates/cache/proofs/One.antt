@@ -44,6 +44,10 @@ module _ (a b : Out) (x y m k : List ℕ) (e : did a x m ≡ did b y k) where
   pub memory-one : m ≡ k
   memory-one = ap (λ (o : calls.Out). o.memory) e
 
+-- two calls that are refused with one number, or not refused, answered alike
+pub told_one : {c : ℕ} (a b : Result Unit Refusal) → refused_with a ≡ c → refused_with b ≡ c → a ≡ b
+told_one = refused_one
+
 -- two results that a promise `did .. ≡ o` allows
 abbrev Alike : Out → Out → (x y m k : List ℕ) → Type 0
 Alike a b x y m k = (a ≡ b) × (x ≡ y) × (m ≡ k)
@@ -76,4 +80,4 @@ module _ (s : State) (bytes memory : List ℕ) (k : ℕ) where
   one-show a b p q = p ∙ sym q
 
   pub one-show-refusal : (a b : Result Unit Refusal) → refused_with a ≡ show_no (seen s) bytes memory k → refused_with b ≡ show_no (seen s) bytes memory k → a ≡ b
-  one-show-refusal = refused_one
+  one-show-refusal = told_one

@@ -119,6 +119,14 @@ module _ (s : State) (bytes memory : List ℕ) where
 
 -- issue
 module _ (s : State) (bytes memory : List ℕ) (x : ℕ) (a : Access) where
+  pub issue-unfit : 0 < unfit s bytes memory → issue_no s bytes memory x a ≡ unfit s bytes memory
+  unfolding issue_no
+  issue-unfit h = refusal-then (state_tests s bytes memory) _ h
+
+  pub issue-fit : unfit s bytes memory ≡ 0 → issue_no s bytes memory x a ≡ refusal (issue_tests s.shape x a s.trackers)
+  unfolding issue_no
+  issue-fit e = sym (fit-rest s bytes memory _ (sym e))
+
   -- where an issue is not refused
   pub issue-in : issue_no s bytes memory x a ≡ 0 → x < most_trackers
   unfolding issue_no

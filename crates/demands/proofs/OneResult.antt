@@ -11,7 +11,7 @@ use Rattle.play.specs.Seen.{left}
 use Rattle.session.specs.Session.{kept_of}
 use Rattle.memory.proofs.plain_reading.Kinds as plain-reading-kinds
 use Rattle.memory.proofs.plain_reading.Reads as plain-reading
-use Rattle.cache.proofs.One.{did-one, bytes_one, memory-one}
+use Rattle.cache.proofs.One.{did-one, bytes_one, memory-one, told_one}
 use Rattle.cache.proofs.State.fresh.Kinds as fresh-kinds
 use Rattle.cache.proofs.State.fresh.Reads as fresh
 use Rattle.cache.proofs.State.open.Kinds as open-kinds
@@ -24,8 +24,8 @@ use Rattle.cache.proofs.State.drain.Kinds as drain-kinds
 use Rattle.cache.proofs.State.drain.Reads as drain
 use Rattle.cache.proofs.State.show.Kinds as show-kinds
 use Rattle.cache.proofs.State.show.Reads as show
-use Rattle.cache.proofs.State.show_refusal.Kinds as show-refusal-kinds
-use Rattle.cache.proofs.State.show_refusal.Reads as show-refusal
+use Rattle.cache.proofs.State.can_show.Kinds as can-show-kinds
+use Rattle.cache.proofs.State.can_show.Reads as can_show
 use Rattle.image.proofs.image_test.Kinds as image-test-kinds
 use Rattle.image.proofs.image_test.Reads as image-test
 use Rattle.writing.proofs.One.{answer-one}
@@ -66,8 +66,8 @@ one-drain κs a x y s t p q = (did-one x y _ _ _ _ (p ∙ sym q), memory-one x y
 pub one-show : OfAnyTwo show-kinds.ps show-kinds.r show.Post (λ κs x y s t. x.now ≡ y.now)
 one-show κs a x y s t p q = p ∙ sym q
 
-pub one-show-refusal : OfAnyTwo show-refusal-kinds.ps show-refusal-kinds.r show-refusal.Post (λ κs x y s t. x ≡ y)
-one-show-refusal κs a x y s t p q = p ∙ sym q
+pub one-show-refusal : OfAnyTwo can-show-kinds.ps can-show-kinds.r can_show.Post (λ κs x y s t. x ≡ y)
+one-show-refusal κs a x y s t p q = told_one x y p q
 
 pub one-image-test : OfAnyTwo image-test-kinds.ps image-test-kinds.r image-test.Post (λ κs x y s t. x ≡ y)
 one-image-test κs a x y s t p q = p ∙ sym q
