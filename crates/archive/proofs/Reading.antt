@@ -11,8 +11,7 @@ use Rattle.form.specs.Test.{whole_blocks, image_block, count_of, record_at, reco
 use Rattle.laws.proofs.Parts.{part-part}
 use Rattle.form.proofs.Rules.{Accepted, accepted-fits}
 use Rattle.form.proofs.Records.{next-few}
-use Rattle.reader.specs.declared.Reading.{Reading}
-use Rattle.reader.specs.Read.{content_place, the_end, the_record, reading_at}
+use Rattle.reader.specs.Read.{Reading, content_place, the_end, the_record, reading_at}
 use Rattle.reader.proofs.Place.{past-blocks, past-count, is-record}
 use Rattle.archive.specs.Theorems.{place_after, read_after}
 use Rattle.archive.proofs.Written.{under7}

@@ -7,8 +7,7 @@ use Rattle.form.specs.Encode.{Form, Record, none, Sized, records_of, encode}
 use Rattle.laws.specs.Bytes.{splice, Bytes}
 use Rattle.sums.specs.Check.{word}
 use Rattle.form.specs.Test.{whole_blocks, image_block, good_record, image_test}
-use Rattle.reader.specs.declared.Reading.{Reading}
-use Rattle.reader.specs.Read.{reading_at}
+use Rattle.reader.specs.Read.{Reading, reading_at}
 
 -- record p of a list
 abbrev pub listed : List Record → ℕ → Record

@@ -4,6 +4,9 @@ use lib.ListN.{length}
 use Rattle.laws.specs.Refusal.{refused_with, given}
 use Rattle.laws.proofs.Told.{given-one}
 use Rattle.memory.specs.PlainReading.{plain_reading}
+use Rattle.laws.specs.Refusal.{refused_with}
+use Rattle.laws.proofs.Told.{refused-one}
+use Rattle.reader.proofs.One.{read-at-one}
 use Rattle.image.specs.Test.{image_test}
 use Rattle.image.specs.Calls.{writing_refusal, writing_answer, written, restoring_refusal, restored}
 use Rattle.play.specs.Play.{plays}
@@ -70,16 +73,16 @@ pub one-show-refusal : OfAnyTwo can-show-kinds.ps can-show-kinds.r can_show.Post
 one-show-refusal κs a x y s t p q = told_one x y p q
 
 pub one-image-test : OfAnyTwo image-test-kinds.ps image-test-kinds.r image-test.Post (λ κs x y s t. x ≡ y)
-one-image-test κs a x y s t p q = p ∙ sym q
+one-image-test κs a x y s t p q = refused-one x y (p ∙ sym q)
 
 pub one-write-image : OfAnyTwo write-image-kinds.ps write-image-kinds.r write-image.Post (λ κs x y s t. (x ≡ y) × (s.1.1.0.now ≡ t.1.1.0.now))
 one-write-image κs a x y s t p q = (answer-one x y (p.0 ∙ sym q.0) (p.1 ∙ sym q.1), p.2 ∙ sym q.2)
 
 pub one-restore : OfAnyTwo restore-kinds.ps restore-kinds.r restore.Post (λ κs x y s t. (x ≡ y) × (s.1.0.now ≡ t.1.0.now))
-one-restore κs a x y s t p q = (p.0 ∙ sym q.0, p.1 ∙ sym q.1)
+one-restore κs a x y s t p q = (refused-one x y (p.0 ∙ sym q.0), p.1 ∙ sym q.1)
 
 pub one-read-at : OfAnyTwo read-at-kinds.ps read-at-kinds.r read_at.Post (λ κs x y s t. x ≡ y)
-one-read-at κs a x y s t p q = p ∙ sym q
+one-read-at κs a x y s t p q = read-at-one a.0.now a.1.0 p q
 
 pub one-begin-line : OfAnyTwo begin-kinds.ps begin-kinds.r begin.Post (λ κs x y s t. (x ≡ y) × (s.1.1.0.now ≡ t.1.1.0.now))
 one-begin-line κs a x y s t p q = (did-one x y _ _ _ _ (p ∙ sym q), memory-one x y _ _ _ _ (p ∙ sym q))
@@ -95,7 +98,7 @@ one-refuse-chunk κs a x y s t p q = one-refuse-all _ _ _ x y _ _ p q
 pub plain-reading-is : OfAny plain-reading-kinds.ps plain-reading-kinds.r plain-reading.Post (λ κs a x s. given x ≡ plain_reading a.0 a.1.0.now a.1.1.0)
 plain-reading-is κs a x s p = p.told
 
-pub image-test-is : OfAny image-test-kinds.ps image-test-kinds.r image-test.Post (λ κs a x s. x ≡ image_test a.0.now)
+pub image-test-is : OfAny image-test-kinds.ps image-test-kinds.r image-test.Post (λ κs a x s. refused_with x ≡ image_test a.0.now)
 image-test-is κs a x s p = p
 
 pub write-image-is : OfAny write-image-kinds.ps write-image-kinds.r write-image.Post
@@ -103,7 +106,7 @@ pub write-image-is : OfAny write-image-kinds.ps write-image-kinds.r write-image.
 write-image-is κs a x s p = p
 
 pub restore-is : OfAny restore-kinds.ps restore-kinds.r restore.Post
-    (λ κs a x s. (x ≡ restoring_refusal a.0.now (length a.1.0.now)) × (s.1.0.now ≡ restored a.0.now a.1.0.now))
+    (λ κs a x s. (refused_with x ≡ restoring_refusal a.0.now (length a.1.0.now)) × (s.1.0.now ≡ restored a.0.now a.1.0.now))
 restore-is κs a x s p = p
 
 pub play-is : OfAny play-kinds.ps play-kinds.r play.Post

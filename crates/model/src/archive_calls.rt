@@ -3,6 +3,8 @@ ghost use Rattle.std.specs.Prelude.{◌≡◌, length};
 ghost use Rattle.image.specs.Calls.{writing_answer, written, restored};
 ghost use Rattle.model.specs.Archive.{restoring_answer, reader_opened, record_read};
 
+use laws::Refusal;
+
 // Writing: the image's length, or 4,294,967,296 plus the refusal.
 #[unsafe(no_mangle)]
 pub extern "C" fn tag_write_image(n: u64, memory: &[u8], output: &mut [u8]) -> u64
@@ -16,11 +18,7 @@ pub extern "C" fn tag_write_image(n: u64, memory: &[u8], output: &mut [u8]) -> u
 pub extern "C" fn tag_restore(image: &[u8], memory: &mut [u8]) -> u64
     ensures { (result ≡ restoring_answer image.now (length memory.old)) × (memory.new ≡ restored image.now memory.old) }
 {
-    let c = restoring::restore(image, memory);
-    if c == 0 {
-        return 0;
-    }
-    coding::REFUSED + c
+    laws::given_done(restoring::restore(image, memory))
 }
 
 // Opening a reader: 0, or 4,294,967,296 plus the refusal; the two words are the length of its image and its place, both 0 if the image is refused.
@@ -29,16 +27,18 @@ pub extern "C" fn tag_open_reader(image: &[u8], words: &mut [u64]) -> u64
     ensures { (result, words.new) ≡ reader_opened image.now words.old }
 {
     if words.len() != 2 {
-        return coding::REFUSED + 2;
+        return laws::given_done(Err(Refusal::OtherLength));
     }
-    let opened = reader::opening(image);
-    words[0] = opened.length;
-    words[1] = opened.place;
-    let c = opened.refusal;
-    if c == 0 {
-        return 0;
+    match reader::opening(image) {
+        Ok(start) => {
+            words.copy_from_slice(&[start.length, start.place]);
+            0
+        }
+        Err(refusal) => {
+            words.fill(0);
+            laws::given_done(Err(refusal))
+        }
     }
-    coding::REFUSED + c
 }
 
 // What a reader finds at place p of an image: 0 at the end, else 1, and the two words are the record's leaf and the place of its 64 bytes; or 4,294,967,296 plus the refusal.
@@ -47,13 +47,11 @@ pub extern "C" fn tag_record(image: &[u8], p: u64, words: &mut [u64]) -> u64
     ensures { (result, words.new) ≡ record_read image.now p words.old }
 {
     if words.len() != 2 {
-        return coding::REFUSED + 2;
+        return laws::given_done(Err(Refusal::OtherLength));
     }
-    let found = reader::record_at(image, p);
-    if found.found {
-        words[0] = found.leaf;
-        words[1] = found.start;
-        return 1;
-    }
-    0
+    let Some(found) = reader::record_at(image, p) else {
+        return 0;
+    };
+    words.copy_from_slice(&[found.leaf, found.start]);
+    1
 }

@@ -17,7 +17,7 @@ pub extern "C" fn tag_plain_read(n: u64, memory: &[u8], group: u64) -> u64
 pub extern "C" fn tag_image_test(image: &[u8]) -> u64
     ensures { result ≡ image_test image.now }
 {
-    image::image_test(image)
+    laws::refused_with(image::image_test(image))
 }
 
 // The lowest tagged group from a up to but not including b, 8,589,934,592 for none, or 4,294,967,296 plus the refusal.

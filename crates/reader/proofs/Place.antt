@@ -2,16 +2,16 @@
 use mathlib.Core.Path.{◌≡◌, refl, ap, sym, ◌∙◌}
 use mathlib.Core.Bool.{Bool, true, false}
 use mathlib.Core.List.{List, []}
-use Prim.Native.Nat.{ℕ, ◌+◌, ◌/◌, ◌%◌, ◌≤◌, ◌<◌}
+use Prim.Native.Nat.{ℕ, ◌+◌, ◌*◌, ◌/◌, ◌%◌, ◌≤◌, ◌<◌}
 use native.Mathlib.Omega.{arith}
 use borrow.Author.Tests.{le-leb, lt-leb, leb-false}
 use lib.Dec.{leb}
 use lib.ListN.{length}
 use Rattle.laws.specs.Choice.{pick, either}
+use Rattle.laws.proofs.Choice.{not-both-ways}
 use Rattle.laws.specs.Bytes.{part}
 use Rattle.image.specs.Test.{whole_blocks, image_block, count_of}
-use Rattle.reader.specs.declared.Reading.{Reading}
-use Rattle.reader.specs.Read.{at_end, the_end, content_place, the_record, reading_at, content_at}
+use Rattle.reader.specs.Read.{Reading, at_end, the_end, content_place, the_record, reading_at, content_at}
 
 module _ (image : List ℕ) (p : ℕ) where
   pub past-blocks : whole_blocks image ≤ 1 + p / 7 → reading_at image p ≡ the_end p
@@ -53,9 +53,26 @@ module _ (image : List ℕ) (p : ℕ) (r : Reading) (e : r ≡ reading_at image 
           let z : ◌≡◌ {A = ℕ} 0 1 = cc in absurd (omega arith)
       by_end false q = let s : r.start ≡ content_place p = ap (λ (x : Reading). x.start) (at-end false q) in let h : content_place p + 64 ≤ length image = room q in omega (arith, s, h)
 
+  -- and the place after it is one on
+  pub moves-on : r.found ≡ true → (p < 7 * whole_blocks image) × (r.next ≡ p + 1)
+  moves-on f = by_end (at_end image p) refl
+    where
+      by_end : (b : Bool) → at_end image p ≡ b → (p < 7 * whole_blocks image) × (r.next ≡ p + 1)
+      by_end true q = absurd (not-both-ways f (ap (λ (x : Reading). x.found) (at-end true q)))
+      by_end false q = let h : content_place p + 64 ≤ length image = room q in (omega (arith, h), ap (λ (x : Reading). x.next) (at-end false q))
+
   pub content-is : pick r.found (part image r.start 64) [] ≡ content_at image p
   content-is = by_end (at_end image p) refl
     where
       by_end : (b : Bool) → at_end image p ≡ b → pick r.found (part image r.start 64) [] ≡ content_at image p
       by_end true q = ap (λ (x : Reading). pick x.found (part image x.start 64) []) (at-end true q) ∙ sym (content-by true q)
       by_end false q = ap (λ (x : Reading). pick x.found (part image x.start 64) []) (at-end false q) ∙ sym (content-by false q)
+
+-- the end is found only at the end
+pub end_stays : (image : List ℕ) (p q : ℕ) → record { found = false; leaf = 0; start = 0; next = q } ≡ reading_at image p → the_end p ≡ reading_at image p
+unfolding reading_at
+end_stays image p q e = by_end (at_end image p) refl
+  where
+    by_end : (b : Bool) → at_end image p ≡ b → the_end p ≡ pick (at_end image p) (the_end p) (the_record image p)
+    by_end true h = rw h
+    by_end false h = let f : false ≡ true = ap (λ (x : Reading). x.found) (e ∙ ap (λ (b : Bool). pick b (the_end p) (the_record image p)) h) in absurd (not-both-ways {b = false} f refl)
