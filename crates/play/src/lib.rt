@@ -3,11 +3,13 @@
 // No public function has a `requires`.
 #![tactic(auto)]
 
-ghost use Rattle.std.specs.Prelude.{◌≡◌, true, ◌+◌, ◌<◌, ◌≤◌, ltb, length};
+ghost use Rattle.std.specs.Prelude.{◌≡◌, true, ◌+◌, ◌<◌, ◌≤◌, ltb, length, ◌==◌, Some, None};
+ghost use Rattle.std.specs.List.{position};
 ghost use Rattle.laws.specs.Choice.{both};
 ghost use Rattle.laws.specs.Bytes.{fits};
+ghost use Rattle.laws.specs.Refusal.{number};
 ghost use Rattle.text.specs.Text.{most};
-ghost use Rattle.script.specs.Script.{asks, news};
+ghost use Rattle.script.specs.Script.{asks};
 ghost use Rattle.rules.specs.State.{lengths_right, zero_state};
 ghost use Rattle.rules.specs.Whole.{whole};
 ghost use Rattle.rules.specs.Calls.{refused};
@@ -18,6 +20,7 @@ ghost use Rattle.play.specs.Seen.{kept, left, left_refused};
 
 use cache::{Out, State};
 use geometry::{Geometry, Shape};
+use laws::Refusal;
 use script::Command;
 use tracker::{Access, Answer, Tracker, Transfers};
 use turn::Asked;
@@ -43,19 +46,26 @@ pub struct Refused {
 }
 
 // What a line asks for.
-fn asked(c: Command) -> Asked
+fn asked(c: Option<Command>) -> Asked
     ensures { result ≡ asked_by (asks c) }
 {
     match c {
-        Command::New(n, l, t) => Asked::Other,
-        Command::Read(x, g, bottom) => Asked::Issue(x as u64, Access::read_of(bottom, g)),
-        Command::Write(x, g, v, bottom) => {
-            Asked::Issue(x as u64, Access::write_of(bottom, g, v))
-        }
-        Command::Step(x) => Asked::Step(x as u64),
-        Command::Drain => Asked::Drain,
-        Command::Bad => Asked::Other,
+        Some(Command::Read(x, g, bottom)) => Asked::Issue(u64::from(x), Access::read_of(bottom, g)),
+        Some(Command::Write(x, g, v, bottom)) => Asked::Issue(
+            u64::from(x),
+            Access::write_of(bottom, g, v),
+        ),
+        Some(Command::Step(x)) => Asked::Step(u64::from(x)),
+        Some(Command::Drain) => Asked::Drain,
+        Some(Command::New(..)) | None => Asked::Other,
     }
+}
+
+// Where the first newline is.
+fn newline(input: &[u8]) -> Option<usize>
+    ensures { result ≡ position (λ b. b == 10) input.now }
+{
+    input.iter().position(|b| *b == b'\n')
 }
 
 // The end of the line that begins at `at`: its newline, or the chunk's end.
@@ -63,30 +73,17 @@ fn line_end(input: &[u8], at: usize) -> usize
     requires { at ≤ length input.now }
     ensures { result ≡ line_end input.now at }
 {
-    let mut i = at;
-    while i < input.len() {
-        if input[i] == 10 {
-            return i;
-        }
-        i += 1;
+    match newline(&input[at..]) {
+        Some(k) => at + k,
+        None => input.len(),
     }
-    i
 }
 
 // Another line ends in the chunk, at e; the output has room for its text, and there is a number for it.
 fn goes_on(e: usize, input: &[u8], output: &[u8], written: usize, number: u64) -> bool
     ensures { result ≡ both (ltb e (length input.now)) (both (fits output.now written most) (ltb number 18446744073709551615)) }
 {
-    if input.len() <= e {
-        return false;
-    }
-    if output.len() < text::MOST {
-        return false;
-    }
-    if output.len() - text::MOST < written {
-        return false;
-    }
-    number < u64::MAX
+    e < input.len() && text::has_room(output, written) && number < u64::MAX
 }
 
 // The lines of a chunk, one after the other: the rows are copied out of the state once, and lent to each line.
@@ -102,10 +99,8 @@ fn play_lines(
     ensures { left result bytes.new memory.new output.new ≡ played follows (length input.now) input.now (starts (kept state bytes.old memory.old) number output.old) }
 {
     let mut shape = state.shape;
-    let ls = state.lines;
-    let ts = state.trackers;
-    let mut lines = turn::row(ls);
-    let mut trackers = turn::table(ts);
+    let mut lines = turn::row(state.lines);
+    let mut trackers = turn::table(state.trackers);
     let mut k = number;
     let mut at: usize = 0;
     let mut written: usize = 0;
@@ -117,15 +112,10 @@ fn play_lines(
         k += 1;
         let a = asked(c);
         let x = turn::named(shape.t, a);
-        let u = trackers[x];
-        let r = turn::take(shape, a, trackers, u, &mut lines, bytes, memory);
-        let moved = r.shape;
-        shape = moved;
-        let v = r.tracker;
-        trackers[x] = v;
-        let answer = r.answer;
-        let transfers = r.transfers;
-        written = text::put_line(output, written, k, answer, transfers);
+        let r = turn::take(shape, a, trackers, trackers[x], &mut lines, bytes, memory);
+        shape = r.shape;
+        trackers[x] = r.tracker;
+        written = text::put_line(output, written, k, r.answer, r.transfers);
     }
     Played {
         state: State {
@@ -143,11 +133,7 @@ fn play_lines(
 fn is_ready(state: State, bytes: &[u8], memory: &[u8]) -> bool
     ensures { result ≡ both (whole (seen state)) (lengths_right state.shape bytes.now memory.now) }
 {
-    if !state.whole() {
-        return false;
-    }
-    let shape = state.shape;
-    step::lengths_right(shape, bytes, memory)
+    state.whole() && step::lengths_right(state.shape, bytes, memory)
 }
 
 // A chunk of a script whose line 1 was accepted: every whole line of it for which there is room in the output.
@@ -185,7 +171,13 @@ pub fn refuse_all(number: u64, input: &[u8], output: &mut [u8]) -> Refused
         at = e + 1;
         e = line_end(input, at);
         k += 1;
-        written = text::put_line(output, written, k, Answer::No(12), none);
+        written = text::put_line(
+            output,
+            written,
+            k,
+            Answer::No(Refusal::OtherForm as u8),
+            none,
+        );
     }
     Refused {
         number: k,
@@ -202,39 +194,28 @@ pub fn first_end(input: &[u8]) -> usize
 }
 
 // A first line that is refused: a state that is zero throughout, as fresh gives it.
-fn begin_refused(c: u8, bytes: &[u8], memory: &mut [u8]) -> Out
-    ensures { did result bytes.now memory.new ≡ refused c zero_state bytes.now memory.old }
+fn begin_refused(r: Refusal, bytes: &[u8], memory: &mut [u8]) -> Out
+    ensures { did result bytes.now memory.new ≡ refused (number r) zero_state bytes.now memory.old }
 {
-    let none = State::fresh(0, 0, 0, bytes, memory);
-    let state = none.state;
-    let transfers = none.transfers;
     Out {
-        state,
-        answer: Answer::No(c),
-        transfers,
+        answer: Answer::No(u8::from(r)),
+        ..State::fresh(0, 0, 0, bytes, memory)
     }
 }
 
-// `n N L T`, N at most 800: else refusal 1.
-fn begin_new(n: u32, l: u32, t: u32, bytes: &[u8], memory: &mut [u8]) -> Out
-    ensures { did result bytes.now memory.new ≡ begins (news n l t) bytes.now memory.old }
-{
-    if LEAVES < n {
-        return begin_refused(1, bytes, memory);
-    }
-    State::fresh(n as u64, t as u64, l as u64, bytes, memory)
-}
-
-// Line 1: a fresh memory, or its refusal; 12 for a line of another form.
-pub fn begin(c: Command, bytes: &[u8], memory: &mut [u8]) -> Out
+// Line 1: a fresh memory, N at most 800 (else refusal 1), or its refusal; 12 for a line of another form.
+pub fn begin(c: Option<Command>, bytes: &[u8], memory: &mut [u8]) -> Out
     ensures { did result bytes.now memory.new ≡ begins (asks c) bytes.now memory.old }
 {
     match c {
-        Command::New(n, l, t) => begin_new(n, l, t, bytes, memory),
-        Command::Read(x, g, bottom) => begin_refused(12, bytes, memory),
-        Command::Write(x, g, v, bottom) => begin_refused(12, bytes, memory),
-        Command::Step(x) => begin_refused(12, bytes, memory),
-        Command::Drain => begin_refused(12, bytes, memory),
-        Command::Bad => begin_refused(12, bytes, memory),
+        Some(Command::New(n, l, t)) if n <= LEAVES => State::fresh(
+            u64::from(n),
+            u64::from(t),
+            u64::from(l),
+            bytes,
+            memory,
+        ),
+        Some(Command::New(..)) => begin_refused(Refusal::OutsideLimits, bytes, memory),
+        _ => begin_refused(Refusal::OtherForm, bytes, memory),
     }
 }
