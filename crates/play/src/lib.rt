@@ -3,8 +3,7 @@
 // No public function has a `requires`.
 #![tactic(auto)]
 
-ghost use Rattle.std.specs.Prelude.{◌≡◌, true, ◌+◌, ◌<◌, ◌≤◌, ltb, length, ◌==◌, Some, None};
-ghost use Rattle.std.specs.List.{position};
+ghost use Rattle.std.specs.Prelude.{◌≡◌, true, ◌+◌, ◌<◌, ◌≤◌, ltb, length};
 ghost use Rattle.laws.specs.Choice.{both};
 ghost use Rattle.laws.specs.Bytes.{fits};
 ghost use Rattle.laws.specs.Refusal.{number};
@@ -61,19 +60,12 @@ fn asked(c: Option<Command>) -> Asked
     }
 }
 
-// Where the first newline is.
-fn newline(input: &[u8]) -> Option<usize>
-    ensures { result ≡ position (λ b. b == 10) input.now }
-{
-    input.iter().position(|b| *b == b'\n')
-}
-
 // The end of the line that begins at `at`: its newline, or the chunk's end.
 fn line_end(input: &[u8], at: usize) -> usize
     requires { at ≤ length input.now }
     ensures { result ≡ line_end input.now at }
 {
-    match newline(&input[at..]) {
+    match script::find(&input[at..], b'\n') {
         Some(k) => at + k,
         None => input.len(),
     }

@@ -9,13 +9,13 @@ use native.Mathlib.Omega.{arith}
 use lib.Dec.{eqb, ltb}
 use lib.ListN.{length, get_or, take, drop, length-drop}
 use lib.Seq.{take_all}
-use borrow.Author.Tests.{ltb-true, ltb-false, lt-ltb, le-ltb, le-leb, lt-leb}
+use borrow.Author.Tests.{ne_eqb, ltb-true, ltb-false, lt-ltb, le-ltb, le-leb, lt-leb}
 use Rattle.std.specs.List.{position, position_or_len}
 use Rattle.std.specs.Prelude.{Some, None, nat_eq}
 use Rattle.std.proofs.lemmas.Bool.{eqb-true, eq-eqb}
 use Rattle.std.proofs.lemmas.Option.{none-some, same_Some}
 use Rattle.std.proofs.lemmas.List.Quantifiers.{position-Some}
-use Rattle.std.proofs.lemmas.List.Sums.{fails_before_first}
+use Rattle.std.proofs.lemmas.List.Sums.{fails_before_first, position_or_len_is}
 use Rattle.laws.specs.Choice.{pick, both, either}
 use Rattle.laws.specs.Scan.{all}
 use Rattle.laws.proofs.Choice.{both_left, both_right, both-false-left, both-false-right, both_true, never_true, true-or-false}
@@ -64,6 +64,14 @@ pub position-none : (p : ℕ → Bool) (xs : List ℕ) → None ≡ position p x
 position-none p xs e i h =
     let l : length xs ≤ position_or_len p xs = ltb-false _ _ (none-cond _ _ e) in
     fails_before_first p xs i 0 (omega arith)
+
+-- a loop finds the first byte b, or none
+module _ (xs : List ℕ) (b : ℕ) where
+  pub found : (i : ℕ) → i < length xs → ((k : ℕ) → k < i → get_or xs k 0 ≡ b → ⊥) → get_or xs i 0 ≡ b → Some i ≡ position (λ x. nat_eq x b) xs
+  found i l f e = rw (position_or_len_is (λ x. nat_eq x b) xs i 0 (omega arith) (λ k h. ne_eqb _ _ (f k h)) (λ _. eq-eqb _ _ e), lt-ltb i (length xs) l) refl
+
+  pub found-none : ((k : ℕ) → k < length xs → get_or xs k 0 ≡ b → ⊥) → None ≡ position (λ x. nat_eq x b) xs
+  found-none f = rw (position_or_len_is (λ x. nat_eq x b) xs (length xs) 0 (omega arith) (λ k h. ne_eqb _ _ (f k h)) (λ q. absurd (omega arith)), le-ltb (length xs) (length xs) (omega arith)) refl
 
 -- where no space is found, the line is one field
 pub fields-one : (xs : List ℕ) → None ≡ position is_space xs → fields xs ≡ xs ∷ []
