@@ -4,13 +4,11 @@ use mathlib.Core.Bool.{Bool, true, false}
 use mathlib.Core.List.{List}
 use Prim.Native.Nat.{ℕ, ◌+◌, ◌-◌, ◌≤◌, ◌<◌}
 use native.Mathlib.Omega.{arith}
-use lib.Dec.{eqb, ltb}
+use lib.Dec.{eqb}
 use lib.ListN.{length, get_or, take, drop, length-drop}
-use borrow.Author.Tests.{ltb-true, le-leb, lt-leb}
+use borrow.Author.Tests.{le-leb, lt-leb}
 use Rattle.laws.specs.Refusal.{refusal, unless}
 use Rattle.laws.specs.Choice.{both}
-use Rattle.laws.specs.Bytes.{fits}
-use Rattle.laws.proofs.Choice.{both_left, both_right}
 use Rattle.laws.proofs.Scan.{first-is, first-none}
 use Rattle.script.proofs.Laws.{position-none}
 use Rattle.std.specs.List.{position}
@@ -76,14 +74,6 @@ module _ (input : List ℕ) (at : ℕ) (h : at ≤ length input) where
   end_none e =
       let f = position-none is_newline rest e in
       rw (first-none (newline_at input at) (length input - at) (λ i q. rw rest-at at (f i (omega (arith, rest-length))))) (omega arith)
-
--- the loop goes on
-module _ (e : ℕ) (input output : List ℕ) (written number : ℕ) (h : both (ltb e (length input)) (both (fits output written 64) (ltb number 18446744073709551615)) ≡ true) where
-  pub tested-end : e < length input
-  tested-end = ltb-true _ _ (both_left _ _ h)
-
-  pub tested-number : number < 18446744073709551615
-  tested-number = ltb-true _ _ (both_right _ _ (both_right _ _ h))
 
 -- the whole chunk
 module _ (k : Kept) (number : ℕ) (input output : List ℕ) where

@@ -3,11 +3,12 @@
 // No public function has a `requires`.
 #![tactic(auto)]
 
-ghost use Rattle.std.specs.Prelude.{◌≡◌, true, ◌+◌, ◌<◌, ◌≤◌, ltb, length};
+ghost use Rattle.std.specs.Prelude.{◌≡◌, true, ◌+◌, ◌<◌, ◌≤◌, length, MatchOption};
 ghost use Rattle.laws.specs.Choice.{both};
-ghost use Rattle.laws.specs.Bytes.{fits};
+ghost use Rattle.laws.specs.Bytes.{splice};
 ghost use Rattle.laws.specs.Refusal.{number};
-ghost use Rattle.text.specs.Text.{most};
+ghost use Rattle.text.specs.Text.{line_in};
+ghost use Rattle.tracker.specs.Answer.{says};
 ghost use Rattle.script.specs.Script.{asks};
 ghost use Rattle.rules.specs.State.{lengths_right, zero_state};
 ghost use Rattle.rules.specs.Whole.{whole};
@@ -15,7 +16,7 @@ ghost use Rattle.rules.specs.Calls.{refused};
 ghost use Rattle.rules.specs.Run.{Kept};
 ghost use Rattle.play.specs.Play.{begins, asked_by, line_end, follows, starts, played, plays, refuses_all};
 ghost use Rattle.cache.specs.Seen.{seen, did};
-ghost use Rattle.play.specs.Seen.{kept, left, left_refused};
+ghost use Rattle.play.specs.Seen.{kept, left, left_refused, beginning, Stops, Goes};
 
 use cache::{Out, State};
 use geometry::{Geometry, Shape};
@@ -27,21 +28,19 @@ use turn::Asked;
 // The most leaves that a script can ask for.
 const LEAVES: u32 = 800;
 
-// What a chunk leaves beside what is lent: the state, the number of the last line, the bytes of the chunk that are done, the bytes of output.
+// How far a chunk is done: the number of the last line, the bytes of the chunk that are done, the bytes of output that are written.
 #[derive(Drop)]
-pub struct Played {
-    pub state: State,
+pub struct Place {
     pub number: u64,
     pub taken: usize,
     pub written: usize,
 }
 
-// The same of a chunk whose lines are all refused.
+// What a chunk leaves beside what is lent: the state, and how far it is done.
 #[derive(Drop)]
-pub struct Refused {
-    pub number: u64,
-    pub taken: usize,
-    pub written: usize,
+pub struct Played {
+    pub state: State,
+    pub place: Place,
 }
 
 // What a line asks for.
@@ -71,11 +70,43 @@ fn line_end(input: &[u8], at: usize) -> usize
     }
 }
 
-// Another line ends in the chunk, at e; the output has room for its text, and there is a number for it.
-fn goes_on(e: usize, input: &[u8], output: &[u8], written: usize, number: u64) -> bool
-    ensures { result ≡ both (ltb e (length input.now)) (both (fits output.now written most) (ltb number 18446744073709551615)) }
-{
-    e < input.len() && text::has_room(output, written) && number < u64::MAX
+impl Place {
+    // A chunk's beginning, with an empty output.
+    fn start(number: u64) -> Place
+        ensures { result ≡ beginning number }
+    {
+        Place {
+            number,
+            taken: 0,
+            written: 0,
+        }
+    }
+
+    // Where the next line ends, if it ends in the chunk, the output has room for its text, and there is a number for it.
+    fn next(&self, input: &[u8], output: &[u8]) -> Option<usize>
+        requires { self.now.taken ≤ length input.now }
+        ensures { MatchOption result (Stops input.now output.now self.now) (Goes input.now output.now self.now) }
+    {
+        let e = line_end(input, self.taken);
+        if e < input.len() && text::has_room(output, self.written) && self.number < u64::MAX {
+            Some(e)
+        } else {
+            None
+        }
+    }
+
+    // The line that ends at e has its answer, put into the output where there is room for it.
+    fn tell(&mut self, e: usize, output: &mut [u8], answer: Answer, transfers: Transfers)
+        requires { (e < 18446744073709551615) × (self.old.number < 18446744073709551615) }
+        ensures number { self.new.number ≡ self.old.number + 1 }
+        ensures taken { self.new.taken ≡ e + 1 }
+        ensures output { output.new ≡ splice output.old self.old.written (line_in output.old self.old.written (self.old.number + 1) (says answer) transfers) }
+        ensures written { self.new.written ≡ self.old.written + length (line_in output.old self.old.written (self.old.number + 1) (says answer) transfers) }
+    {
+        self.number += 1;
+        self.taken = e + 1;
+        self.written = text::put_line(output, self.written, self.number, answer, transfers);
+    }
 }
 
 // The lines of a chunk, one after the other: the rows are copied out of the state once, and lent to each line.
@@ -93,21 +124,14 @@ fn play_lines(
     let mut shape = state.shape;
     let mut lines = turn::row(state.lines);
     let mut trackers = turn::table(state.trackers);
-    let mut k = number;
-    let mut at: usize = 0;
-    let mut written: usize = 0;
-    let mut e = line_end(input, 0);
-    while goes_on(e, input, output, written, k) {
-        let c = script::parse(&input[at..e]);
-        at = e + 1;
-        e = line_end(input, at);
-        k += 1;
-        let a = asked(c);
+    let mut place = Place::start(number);
+    while let Some(e) = place.next(input, output) {
+        let a = asked(script::parse(&input[place.taken..e]));
         let x = turn::named(shape.t, a);
         let r = turn::take(shape, a, trackers, trackers[x], &mut lines, bytes, memory);
         shape = r.shape;
         trackers[x] = r.tracker;
-        written = text::put_line(output, written, k, r.answer, r.transfers);
+        place.tell(e, output, r.answer, r.transfers);
     }
     Played {
         state: State {
@@ -115,9 +139,7 @@ fn play_lines(
             lines,
             trackers,
         },
-        number: k,
-        taken: at,
-        written,
+        place,
     }
 }
 
@@ -142,40 +164,26 @@ pub fn play(
     if !is_ready(state, bytes, memory) {
         return Played {
             state,
-            number,
-            taken: 0,
-            written: 0,
+            place: Place::start(number),
         };
     }
     play_lines(state, number, input, bytes, memory, output)
 }
 
 // A chunk of a script whose line 1 was refused: every whole line of it for which there is room in the output gets 12.
-pub fn refuse_all(number: u64, input: &[u8], output: &mut [u8]) -> Refused
+pub fn refuse_all(number: u64, input: &[u8], output: &mut [u8]) -> Place
     ensures { (k : Kept) → left_refused k result output.new ≡ refuses_all k number input.now output.old }
 {
-    let none = Transfers::none();
-    let mut k = number;
-    let mut at: usize = 0;
-    let mut written: usize = 0;
-    let mut e = line_end(input, 0);
-    while goes_on(e, input, output, written, k) {
-        at = e + 1;
-        e = line_end(input, at);
-        k += 1;
-        written = text::put_line(
+    let mut place = Place::start(number);
+    while let Some(e) = place.next(input, output) {
+        place.tell(
+            e,
             output,
-            written,
-            k,
             Answer::No(Refusal::OtherForm as u8),
-            none,
+            Transfers::none(),
         );
     }
-    Refused {
-        number: k,
-        taken: at,
-        written,
-    }
+    place
 }
 
 // The end of a chunk's first line: its newline, or the chunk's end.

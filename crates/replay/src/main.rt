@@ -116,9 +116,9 @@ impl Replay {
             Stage::Accepted(state, number) => {
                 let Replay { input, output, bytes, memory, .. } = self;
                 let p = later(state, number, &input[from..end], bytes, memory, output);
-                self.stage = Stage::Accepted(p.state, p.number);
-                self.write(p.written);
-                p.taken
+                self.stage = Stage::Accepted(p.state, p.place.number);
+                self.write(p.place.written);
+                p.place.taken
             }
         }
     }
