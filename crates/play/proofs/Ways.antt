@@ -6,7 +6,6 @@ use Prim.Native.Nat.{ℕ, ◌+◌, ◌-◌, ◌≤◌, ◌<◌}
 use native.Mathlib.Omega.{arith}
 use lib.Dec.{eqb}
 use lib.ListN.{length, get_or, take, drop, length-drop}
-use borrow.Author.Tests.{le-leb, lt-leb}
 use Rattle.laws.specs.Refusal.{refusal, unless}
 use Rattle.laws.specs.Choice.{both}
 use Rattle.laws.proofs.Scan.{first-is, first-none}
@@ -14,31 +13,14 @@ use Rattle.script.proofs.Laws.{position-none}
 use Rattle.std.specs.List.{position}
 use Rattle.std.proofs.lemmas.List.Quantifiers.{position-Some}
 use lib.Seq.{take_all, get_or-drop}
-use Rattle.tracker.specs.declared.Access.{Access}
-use Rattle.tracker.specs.Tracker.{read_of, write_of}
 use Rattle.tracker.specs.Answer.{no}
-use Rattle.std.specs.Prelude.{Option, Some, None, nat_eq}
-use Rattle.script.specs.declared.Command.{Command}
-use Rattle.script.specs.declared.Command.TheVariants as command
-use Rattle.script.specs.Script.{news, asks}
+use Rattle.std.specs.Prelude.{Some, None, nat_eq}
 use Rattle.geometry.specs.TagMemory.{in_limits_of}
-use Rattle.rules.specs.State.{State, lengths_right, zero_state}
+use Rattle.rules.specs.State.{lengths_right, zero_state}
 use Rattle.rules.specs.Whole.{limits, whole}
 use Rattle.rules.specs.Calls.{Out, refused, fresh}
 use Rattle.rules.specs.Run.{Kept}
-use Rattle.turn.specs.declared.Asked.TheVariants.{Issue, Step}
-use Rattle.play.specs.Play.{replay_leaves, begins, asked_by, follows, line_end, starts, played, plays}
-
--- what a command asks for
-module _ {c : Option Command} where
-  pub asked-read : {x g : ℕ} {bottom : Bool} {a : Access} → c ≡ Some (command.Read x g bottom) → a ≡ read_of bottom g → Issue x a ≡ asked_by (asks c)
-  asked-read e q = rw (e, q) refl
-
-  pub asked-write : {x g v : ℕ} {bottom : Bool} {a : Access} → c ≡ Some (command.Write x g v bottom) → a ≡ write_of bottom g v → Issue x a ≡ asked_by (asks c)
-  asked-write e q = rw (e, q) refl
-
-  pub asked-step : {x : ℕ} → c ≡ Some (command.Step x) → Step x ≡ asked_by (asks c)
-  asked-step e = rw e refl
+use Rattle.play.specs.Play.{follows, line_end, starts, played, plays}
 
 -- the line's end
 abbrev pub is_newline : ℕ → Bool
@@ -86,22 +68,7 @@ module _ (k : Kept) (number : ℕ) (input output : List ℕ) where
   unfolding plays
   plays-ready e = rw e
 
--- whether a chunk can be played
-module _ (s : State) (bytes memory : List ℕ) where
-  pub ready-is : whole s ≡ true → both (whole s) (lengths_right s.shape bytes memory) ≡ lengths_right s.shape bytes memory
-  unfolding both
-  ready-is w = rw w
-
 module _ (bytes memory : List ℕ) where
   pub refused-of : (c : ℕ) {o : Out} → o ≡ fresh 0 0 0 bytes memory → (record { said = no c; state = o.state; bytes = o.bytes; memory = o.memory; transfers = o.transfers }) ≡ refused c zero_state bytes memory
   unfolding fresh limits in_limits_of both refusal unless
   refused-of c e = rw e refl
-
-  pub begins-large : (n l t : ℕ) → replay_leaves < n → begins (news n l t) bytes memory ≡ refused 1 zero_state bytes memory
-  begins-large n l t q = rw (lt-leb _ _ q)
-
-  pub begins-small : (n l t : ℕ) → n ≤ replay_leaves → begins (news n l t) bytes memory ≡ fresh n t l bytes memory
-  begins-small n l t q = rw (le-leb _ _ q)
-
-  pub begins-at : {c d : Option Command} → c ≡ d → begins (asks c) bytes memory ≡ begins (asks d) bytes memory
-  begins-at e = rw e refl
