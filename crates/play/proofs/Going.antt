@@ -4,12 +4,11 @@ use mathlib.Core.Bool.{true, false}
 use mathlib.Core.List.{List}
 use Prim.Native.Nat.{ℕ, ◌+◌, ◌-◌, ◌≤◌, ◌<◌}
 use native.Mathlib.Omega.{arith}
-use lib.Dec.{ltb}
 use lib.ListN.{length, set}
 use Rattle.geometry.specs.TagMemory.{most_trackers}
-use Rattle.laws.specs.Choice.{both}
 use Rattle.laws.specs.Bytes.{part, splice, fits}
-use Rattle.laws.proofs.Choice.{both_left, both_right}
+use Rattle.laws.proofs.Choice.{both_left, both_right, both_true, both-false-left, both-false-right}
+use borrow.Author.Tests.{lt-ltb, le-ltb}
 use Rattle.geometry.specs.declared.Shape.{Shape}
 use Rattle.tracker.specs.declared.Tracker.{Tracker}
 use Rattle.tracker.specs.Answer.{Said, says, no}
@@ -30,7 +29,9 @@ use Rattle.turn.specs.declared.Asked.{Asked}
 use Rattle.turn.specs.Turn.{named, takes, asked_turn}
 use Rattle.turn.proofs.Does.{named-most, takes-turn, takes-kept}
 use Rattle.play.specs.Play.{Played, asked_by, follows, refuses, line_end, goes_on, after, line_done, played}
-use Rattle.play.proofs.Chunk.{goes_on-end, taken_more, played-stops, played-turn}
+use Rattle.play.specs.declared.Place.{Place}
+use Rattle.play.specs.Seen.{Goes, Stops}
+use Rattle.play.proofs.Chunk.{line_end-from, goes_on-end, taken_more, played-stops, played-turn}
 
 -- what is left to do from p on is all that was to do from `begun` on
 pub record Rest (rule : Kept → Asks → Out) (input : List ℕ) (begun p : Played) : Type 0 where
@@ -148,10 +149,22 @@ going_start input shape lines trackers bytes memory number output p q w r =
     record { rest = rest-start follows input (under shape lines trackers bytes memory number 0 output 0) refl; is_whole = rw (p, q) w; right = r }
 
 -- what the code tests is whether it goes on
-pub on-is : (input : List ℕ) (p : Played) (e : ℕ) → e ≡ line_end input p.taken
-    → both (ltb e (length input)) (both (fits p.output p.written 64) (ltb p.number 18446744073709551615)) ≡ goes_on input p
-unfolding goes_on
-on-is input p e q = rw q refl
+module _ (input output : List ℕ) (p : Place) where
+  pub goes : (e : ℕ) → e ≡ line_end input p.taken → e < length input → fits output p.written most ≡ true → p.number < 18446744073709551615 → Goes input output p e
+  unfolding goes_on
+  goes e q l f n = (q, omega (arith, line_end-from input p.taken), l, n, λ k. both_true _ _ (lt-ltb _ _ (rw q at l)) (both_true _ _ f (lt-ltb _ _ n)))
+
+  pub stops_end : (e : ℕ) → e ≡ line_end input p.taken → length input ≤ e → Stops input output p
+  unfolding goes_on
+  stops_end e q l k = both-false-left _ _ (le-ltb _ _ (rw q at l))
+
+  pub stops-full : fits output p.written most ≡ false → Stops input output p
+  unfolding goes_on
+  stops-full f k = both-false-right _ _ (both-false-left _ _ f)
+
+  pub stops-last : 18446744073709551615 ≤ p.number → Stops input output p
+  unfolding goes_on
+  stops-last n k = both-false-right _ _ (both-false-right _ _ (le-ltb _ _ n))
 
 -- after the last line
 pub going-stops : (input : List ℕ) (shape : Shape) (lines : List ℕ) (trackers : List Tracker) (bytes memory : List ℕ) (number : ℕ) (output : List ℕ) {p : Played} {ls : List ℕ} {ts : List Tracker}

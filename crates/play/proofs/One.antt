@@ -10,7 +10,7 @@ use Rattle.cache.specs.declared.Out.{Out}
 use Rattle.cache.specs.Seen.{did}
 use Rattle.cache.proofs.One.{seen_one, did-one, bytes_one, memory-one}
 use Rattle.play.specs.declared.Played.{Played}
-use Rattle.play.specs.declared.Refused.{Refused}
+use Rattle.play.specs.declared.Place.{Place}
 use Rattle.play.specs.Play as definitions
 use Rattle.play.specs.Play.{begins, line_end, plays, refuses_all}
 use Rattle.play.specs.Seen.{left, left_refused}
@@ -19,7 +19,7 @@ pub one-play : (k : Kept) (number : ℕ) (input output : List ℕ) (a b : Played
     → left a x m p ≡ plays k number input output → left b y n q ≡ plays k number input output → (a ≡ b) × (x ≡ y) × (m ≡ n) × (p ≡ q)
 one-play k number input output a b x y m n p q e f =
     let g : left a x m p ≡ left b y n q = e ∙ sym f in (
-      together a.state b.state a.number b.number a.taken b.taken a.written b.written
+      together a.state b.state a.place.number b.place.number a.place.taken b.place.taken a.place.written b.place.written
           (seen_one a.state b.state (ap (λ (r : definitions.Played). r.kept.state) g))
           (ap (λ (r : definitions.Played). r.number) g)
           (ap (λ (r : definitions.Played). r.taken) g)
@@ -30,10 +30,10 @@ one-play k number input output a b x y m n p q e f =
     )
   where
     together : (s t : State) (c d i j u v : ℕ) → s ≡ t → c ≡ d → i ≡ j → u ≡ v
-        → ◌≡◌ {A = Played} (record { state = s; number = c; taken = i; written = u }) (record { state = t; number = d; taken = j; written = v })
+        → ◌≡◌ {A = Played} (record { state = s; place = record { number = c; taken = i; written = u } }) (record { state = t; place = record { number = d; taken = j; written = v } })
     together s t c d i j u v e f g h = rw (e, f, g, h)
 
-pub one-refuse-all : (number : ℕ) (input output : List ℕ) (a b : Refused) (p q : List ℕ)
+pub one-refuse-all : (number : ℕ) (input output : List ℕ) (a b : Place) (p q : List ℕ)
     → ((k : Kept) → left_refused k a p ≡ refuses_all k number input output) → ((k : Kept) → left_refused k b q ≡ refuses_all k number input output) → (a ≡ b) × (p ≡ q)
 one-refuse-all number input output a b p q e f =
     let k : Kept = record { state = zero_state; bytes = []; memory = [] } in
@@ -45,7 +45,7 @@ one-refuse-all number input output a b p q e f =
       ap (λ (r : definitions.Played). r.output) g,
     )
   where
-    together : (c d i j u v : ℕ) → c ≡ d → i ≡ j → u ≡ v → ◌≡◌ {A = Refused} (record { number = c; taken = i; written = u }) (record { number = d; taken = j; written = v })
+    together : (c d i j u v : ℕ) → c ≡ d → i ≡ j → u ≡ v → ◌≡◌ {A = Place} (record { number = c; taken = i; written = u }) (record { number = d; taken = j; written = v })
     together c d i j u v f g h = rw (f, g, h)
 
 pub one-begin : (asked : Asks) (bytes memory : List ℕ) (a b : Out) (x y m n : List ℕ)

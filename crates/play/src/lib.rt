@@ -3,21 +3,24 @@
 // No public function has a `requires`.
 #![tactic(auto)]
 
-ghost use Rattle.std.specs.Prelude.{◌≡◌, true, ◌+◌, ◌<◌, ◌≤◌, ltb, length};
+ghost use Rattle.std.specs.Prelude.{◌≡◌, true, ◌+◌, ◌<◌, ◌≤◌, length, MatchOption};
 ghost use Rattle.laws.specs.Choice.{both};
-ghost use Rattle.laws.specs.Bytes.{fits};
-ghost use Rattle.text.specs.Text.{most};
-ghost use Rattle.script.specs.Script.{asks, news};
+ghost use Rattle.laws.specs.Bytes.{splice};
+ghost use Rattle.laws.specs.Refusal.{number};
+ghost use Rattle.text.specs.Text.{line_in};
+ghost use Rattle.tracker.specs.Answer.{says};
+ghost use Rattle.script.specs.Script.{asks};
 ghost use Rattle.rules.specs.State.{lengths_right, zero_state};
 ghost use Rattle.rules.specs.Whole.{whole};
 ghost use Rattle.rules.specs.Calls.{refused};
 ghost use Rattle.rules.specs.Run.{Kept};
 ghost use Rattle.play.specs.Play.{begins, asked_by, line_end, follows, starts, played, plays, refuses_all};
 ghost use Rattle.cache.specs.Seen.{seen, did};
-ghost use Rattle.play.specs.Seen.{kept, left, left_refused};
+ghost use Rattle.play.specs.Seen.{kept, left, left_refused, beginning, Stops, Goes};
 
 use cache::{Out, State};
 use geometry::{Geometry, Shape};
+use laws::Refusal;
 use script::Command;
 use tracker::{Access, Answer, Tracker, Transfers};
 use turn::Asked;
@@ -25,36 +28,34 @@ use turn::Asked;
 // The most leaves that a script can ask for.
 const LEAVES: u32 = 800;
 
-// What a chunk leaves beside what is lent: the state, the number of the last line, the bytes of the chunk that are done, the bytes of output.
+// How far a chunk is done: the number of the last line, the bytes of the chunk that are done, the bytes of output that are written.
+#[derive(Drop)]
+pub struct Place {
+    pub number: u64,
+    pub taken: usize,
+    pub written: usize,
+}
+
+// What a chunk leaves beside what is lent: the state, and how far it is done.
 #[derive(Drop)]
 pub struct Played {
     pub state: State,
-    pub number: u64,
-    pub taken: usize,
-    pub written: usize,
-}
-
-// The same of a chunk whose lines are all refused.
-#[derive(Drop)]
-pub struct Refused {
-    pub number: u64,
-    pub taken: usize,
-    pub written: usize,
+    pub place: Place,
 }
 
 // What a line asks for.
-fn asked(c: Command) -> Asked
+fn asked(c: Option<Command>) -> Asked
     ensures { result ≡ asked_by (asks c) }
 {
     match c {
-        Command::New(n, l, t) => Asked::Other,
-        Command::Read(x, g, bottom) => Asked::Issue(x as u64, Access::read_of(bottom, g)),
-        Command::Write(x, g, v, bottom) => {
-            Asked::Issue(x as u64, Access::write_of(bottom, g, v))
-        }
-        Command::Step(x) => Asked::Step(x as u64),
-        Command::Drain => Asked::Drain,
-        Command::Bad => Asked::Other,
+        Some(Command::Read(x, g, bottom)) => Asked::Issue(u64::from(x), Access::read_of(bottom, g)),
+        Some(Command::Write(x, g, v, bottom)) => Asked::Issue(
+            u64::from(x),
+            Access::write_of(bottom, g, v),
+        ),
+        Some(Command::Step(x)) => Asked::Step(u64::from(x)),
+        Some(Command::Drain) => Asked::Drain,
+        Some(Command::New(..)) | None => Asked::Other,
     }
 }
 
@@ -63,30 +64,49 @@ fn line_end(input: &[u8], at: usize) -> usize
     requires { at ≤ length input.now }
     ensures { result ≡ line_end input.now at }
 {
-    let mut i = at;
-    while i < input.len() {
-        if input[i] == 10 {
-            return i;
-        }
-        i += 1;
+    match script::find(&input[at..], b'\n') {
+        Some(k) => at + k,
+        None => input.len(),
     }
-    i
 }
 
-// Another line ends in the chunk, at e; the output has room for its text, and there is a number for it.
-fn goes_on(e: usize, input: &[u8], output: &[u8], written: usize, number: u64) -> bool
-    ensures { result ≡ both (ltb e (length input.now)) (both (fits output.now written most) (ltb number 18446744073709551615)) }
-{
-    if input.len() <= e {
-        return false;
+impl Place {
+    // A chunk's beginning, with an empty output.
+    fn start(number: u64) -> Place
+        ensures { result ≡ beginning number }
+    {
+        Place {
+            number,
+            taken: 0,
+            written: 0,
+        }
     }
-    if output.len() < text::MOST {
-        return false;
+
+    // Where the next line ends, if it ends in the chunk, the output has room for its text, and there is a number for it.
+    fn next(&self, input: &[u8], output: &[u8]) -> Option<usize>
+        requires { self.now.taken ≤ length input.now }
+        ensures { MatchOption result (Stops input.now output.now self.now) (Goes input.now output.now self.now) }
+    {
+        let e = line_end(input, self.taken);
+        if e < input.len() && text::has_room(output, self.written) && self.number < u64::MAX {
+            Some(e)
+        } else {
+            None
+        }
     }
-    if output.len() - text::MOST < written {
-        return false;
+
+    // The line that ends at e has its answer, put into the output where there is room for it.
+    fn tell(&mut self, e: usize, output: &mut [u8], answer: Answer, transfers: Transfers)
+        requires { (e < 18446744073709551615) × (self.old.number < 18446744073709551615) }
+        ensures number { self.new.number ≡ self.old.number + 1 }
+        ensures taken { self.new.taken ≡ e + 1 }
+        ensures output { output.new ≡ splice output.old self.old.written (line_in output.old self.old.written (self.old.number + 1) (says answer) transfers) }
+        ensures written { self.new.written ≡ self.old.written + length (line_in output.old self.old.written (self.old.number + 1) (says answer) transfers) }
+    {
+        self.number += 1;
+        self.taken = e + 1;
+        self.written = text::put_line(output, self.written, self.number, answer, transfers);
     }
-    number < u64::MAX
 }
 
 // The lines of a chunk, one after the other: the rows are copied out of the state once, and lent to each line.
@@ -102,30 +122,16 @@ fn play_lines(
     ensures { left result bytes.new memory.new output.new ≡ played follows (length input.now) input.now (starts (kept state bytes.old memory.old) number output.old) }
 {
     let mut shape = state.shape;
-    let ls = state.lines;
-    let ts = state.trackers;
-    let mut lines = turn::row(ls);
-    let mut trackers = turn::table(ts);
-    let mut k = number;
-    let mut at: usize = 0;
-    let mut written: usize = 0;
-    let mut e = line_end(input, 0);
-    while goes_on(e, input, output, written, k) {
-        let c = script::parse(&input[at..e]);
-        at = e + 1;
-        e = line_end(input, at);
-        k += 1;
-        let a = asked(c);
+    let mut lines = turn::row(state.lines);
+    let mut trackers = turn::table(state.trackers);
+    let mut place = Place::start(number);
+    while let Some(e) = place.next(input, output) {
+        let a = asked(script::parse(&input[place.taken..e]));
         let x = turn::named(shape.t, a);
-        let u = trackers[x];
-        let r = turn::take(shape, a, trackers, u, &mut lines, bytes, memory);
-        let moved = r.shape;
-        shape = moved;
-        let v = r.tracker;
-        trackers[x] = v;
-        let answer = r.answer;
-        let transfers = r.transfers;
-        written = text::put_line(output, written, k, answer, transfers);
+        let r = turn::take(shape, a, trackers, trackers[x], &mut lines, bytes, memory);
+        shape = r.shape;
+        trackers[x] = r.tracker;
+        place.tell(e, output, r.answer, r.transfers);
     }
     Played {
         state: State {
@@ -133,9 +139,7 @@ fn play_lines(
             lines,
             trackers,
         },
-        number: k,
-        taken: at,
-        written,
+        place,
     }
 }
 
@@ -143,11 +147,7 @@ fn play_lines(
 fn is_ready(state: State, bytes: &[u8], memory: &[u8]) -> bool
     ensures { result ≡ both (whole (seen state)) (lengths_right state.shape bytes.now memory.now) }
 {
-    if !state.whole() {
-        return false;
-    }
-    let shape = state.shape;
-    step::lengths_right(shape, bytes, memory)
+    state.whole() && step::lengths_right(state.shape, bytes, memory)
 }
 
 // A chunk of a script whose line 1 was accepted: every whole line of it for which there is room in the output.
@@ -164,34 +164,26 @@ pub fn play(
     if !is_ready(state, bytes, memory) {
         return Played {
             state,
-            number,
-            taken: 0,
-            written: 0,
+            place: Place::start(number),
         };
     }
     play_lines(state, number, input, bytes, memory, output)
 }
 
 // A chunk of a script whose line 1 was refused: every whole line of it for which there is room in the output gets 12.
-pub fn refuse_all(number: u64, input: &[u8], output: &mut [u8]) -> Refused
+pub fn refuse_all(number: u64, input: &[u8], output: &mut [u8]) -> Place
     ensures { (k : Kept) → left_refused k result output.new ≡ refuses_all k number input.now output.old }
 {
-    let none = Transfers::none();
-    let mut k = number;
-    let mut at: usize = 0;
-    let mut written: usize = 0;
-    let mut e = line_end(input, 0);
-    while goes_on(e, input, output, written, k) {
-        at = e + 1;
-        e = line_end(input, at);
-        k += 1;
-        written = text::put_line(output, written, k, Answer::No(12), none);
+    let mut place = Place::start(number);
+    while let Some(e) = place.next(input, output) {
+        place.tell(
+            e,
+            output,
+            Answer::No(Refusal::OtherForm as u8),
+            Transfers::none(),
+        );
     }
-    Refused {
-        number: k,
-        taken: at,
-        written,
-    }
+    place
 }
 
 // The end of a chunk's first line: its newline, or the chunk's end.
@@ -202,39 +194,28 @@ pub fn first_end(input: &[u8]) -> usize
 }
 
 // A first line that is refused: a state that is zero throughout, as fresh gives it.
-fn begin_refused(c: u8, bytes: &[u8], memory: &mut [u8]) -> Out
-    ensures { did result bytes.now memory.new ≡ refused c zero_state bytes.now memory.old }
+fn begin_refused(r: Refusal, bytes: &[u8], memory: &mut [u8]) -> Out
+    ensures { did result bytes.now memory.new ≡ refused (number r) zero_state bytes.now memory.old }
 {
-    let none = State::fresh(0, 0, 0, bytes, memory);
-    let state = none.state;
-    let transfers = none.transfers;
     Out {
-        state,
-        answer: Answer::No(c),
-        transfers,
+        answer: Answer::No(u8::from(r)),
+        ..State::fresh(0, 0, 0, bytes, memory)
     }
 }
 
-// `n N L T`, N at most 800: else refusal 1.
-fn begin_new(n: u32, l: u32, t: u32, bytes: &[u8], memory: &mut [u8]) -> Out
-    ensures { did result bytes.now memory.new ≡ begins (news n l t) bytes.now memory.old }
-{
-    if LEAVES < n {
-        return begin_refused(1, bytes, memory);
-    }
-    State::fresh(n as u64, t as u64, l as u64, bytes, memory)
-}
-
-// Line 1: a fresh memory, or its refusal; 12 for a line of another form.
-pub fn begin(c: Command, bytes: &[u8], memory: &mut [u8]) -> Out
+// Line 1: a fresh memory, N at most 800 (else refusal 1), or its refusal; 12 for a line of another form.
+pub fn begin(c: Option<Command>, bytes: &[u8], memory: &mut [u8]) -> Out
     ensures { did result bytes.now memory.new ≡ begins (asks c) bytes.now memory.old }
 {
     match c {
-        Command::New(n, l, t) => begin_new(n, l, t, bytes, memory),
-        Command::Read(x, g, bottom) => begin_refused(12, bytes, memory),
-        Command::Write(x, g, v, bottom) => begin_refused(12, bytes, memory),
-        Command::Step(x) => begin_refused(12, bytes, memory),
-        Command::Drain => begin_refused(12, bytes, memory),
-        Command::Bad => begin_refused(12, bytes, memory),
+        Some(Command::New(n, l, t)) if n <= LEAVES => State::fresh(
+            u64::from(n),
+            u64::from(t),
+            u64::from(l),
+            bytes,
+            memory,
+        ),
+        Some(Command::New(..)) => begin_refused(Refusal::OutsideLimits, bytes, memory),
+        _ => begin_refused(Refusal::OtherForm, bytes, memory),
     }
 }

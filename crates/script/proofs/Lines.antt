@@ -2,69 +2,63 @@
 use mathlib.Core.Path.{◌≡◌, refl}
 use mathlib.Core.List.{List, [], ◌∷◌}
 use mathlib.Core.Bool.{Bool, true, false}
-use mathlib.Core.Logic.{⊎_elim}
 use Prim.Native.Nat.{ℕ, ◌≤◌, ◌<◌}
+use lib.Dec.{eqb}
 use lib.ListN.{length}
 use borrow.Author.Tests.{le-leb, lt-leb}
-use Rattle.laws.specs.Choice.{pick, both}
-use Rattle.laws.specs.Scan.{first}
-use Rattle.laws.proofs.Choice.{both_left, both_right}
-use Rattle.laws.proofs.Splice.{lt-or-ge}
-use Rattle.script.specs.Script.{news, reads, writes, steps, drains, bad, fields, is_decimal, decimal_of, is_hex, hex_of, is_letter, is_order, step_line, new_line, read_line, write_line, of_fields, asks_for}
-use Rattle.script.proofs.Laws.{space_at, fields-more, fields-last}
-
--- the number of a field, 0 where it is none
-abbrev pub decimal_or0 : List ℕ → ℕ
-decimal_or0 f = pick (is_decimal f) (decimal_of f) 0
-
-abbrev pub hex_or0 : List ℕ → ℕ
-hex_or0 f = pick (is_hex f) (hex_of f) 0
-
-number : (b : Bool) (v w : ℕ) → b ≡ true → v ≡ pick b w 0 → v ≡ w
-number b v w t e = rw t at e
+use Rattle.std.specs.Prelude.{Some, None}
+use Rattle.laws.specs.Choice.{both}
+use Rattle.script.specs.Script.{news, reads, writes, steps, drains, bad, before, fields, is_decimal, decimal, is_hex, hex, is_letter, is_order, order, step_line, new_line, read_line, write_line, of_fields, asks_for}
+use Rattle.script.proofs.Laws.{no_decimal, a_decimal, a-hex, an_order}
 
 module _ (x : List ℕ) where
-  pub not_step : is_decimal x ≡ false → bad ≡ step_line x
+  pub not_step : None ≡ decimal x → bad ≡ step_line x
   unfolding step_line
-  not_step h = rw h
+  not_step h = rw (no_decimal _ h)
 
-  pub a-step : (v : ℕ) → is_decimal x ≡ true → v ≡ decimal_or0 x → steps v ≡ step_line x
+  pub a-step : (v : ℕ) → Some v ≡ decimal x → steps v ≡ step_line x
   unfolding step_line
-  a-step v h p = rw (h, number _ v _ h p)
+  a-step v h = let p = a_decimal _ _ h in rw (p.0, p.1)
 
 module _ (n l t : List ℕ) where
   pub not_new : both (is_decimal n) (both (is_decimal l) (is_decimal t)) ≡ false → bad ≡ new_line n l t
   unfolding new_line
   not_new h = rw h
 
-  pub a-new : (vn vl vt : ℕ) → both (is_decimal n) (both (is_decimal l) (is_decimal t)) ≡ true → vn ≡ decimal_or0 n → vl ≡ decimal_or0 l → vt ≡ decimal_or0 t → news vn vl vt ≡ new_line n l t
-  unfolding new_line
-  a-new vn vl vt h p q r =
-      let hr = both_right (is_decimal n) _ h in
-      rw (h, number _ vn _ (both_left _ _ h) p, number _ vl _ (both_left _ _ hr) q, number _ vt _ (both_right (is_decimal l) _ hr) r)
+  pub a-new : (vn vl vt : ℕ) → Some vn ≡ decimal n → Some vl ≡ decimal l → Some vt ≡ decimal t → news vn vl vt ≡ new_line n l t
+  unfolding new_line both
+  a-new vn vl vt hn hl ht =
+      let p = a_decimal _ _ hn in
+      let q = a_decimal _ _ hl in
+      let r = a_decimal _ _ ht in
+      rw (p.0, q.0, r.0, p.1, q.1, r.1)
 
 module _ (x g o : List ℕ) where
   pub not-read : both (is_decimal x) (both (is_decimal g) (is_order o)) ≡ false → bad ≡ read_line x g o
   unfolding read_line
   not-read h = rw h
 
-  pub a_read : (vx vg : ℕ) (b : Bool) → both (is_decimal x) (both (is_decimal g) (is_order o)) ≡ true → vx ≡ decimal_or0 x → vg ≡ decimal_or0 g → b ≡ is_letter o 98 → reads vx vg b ≡ read_line x g o
-  unfolding read_line
-  a_read vx vg b h p q r =
-      let hr = both_right (is_decimal x) _ h in
-      rw (h, number _ vx _ (both_left _ _ h) p, number _ vg _ (both_left _ _ hr) q, r)
+  pub a_read : (vx vg : ℕ) (b : Bool) → Some vx ≡ decimal x → Some vg ≡ decimal g → Some b ≡ order o → reads vx vg b ≡ read_line x g o
+  unfolding read_line both
+  a_read vx vg b hx hg ho =
+      let p = a_decimal _ _ hx in
+      let q = a_decimal _ _ hg in
+      let r = an_order _ _ ho in
+      rw (p.0, q.0, r.0, p.1, q.1, r.1)
 
 module _ (x g v o : List ℕ) where
   pub not-write : both (is_decimal x) (both (is_decimal g) (both (is_hex v) (is_order o))) ≡ false → bad ≡ write_line x g v o
   unfolding write_line
   not-write h = rw h
 
-  pub a_write : (vx vg vv : ℕ) (b : Bool) → both (is_decimal x) (both (is_decimal g) (both (is_hex v) (is_order o))) ≡ true → vx ≡ decimal_or0 x → vg ≡ decimal_or0 g → vv ≡ hex_or0 v → b ≡ is_letter o 98 → writes vx vg vv b ≡ write_line x g v o
-  unfolding write_line
-  a_write vx vg vv b h p q r s =
-      let hr = both_right (is_decimal x) _ h in
-      let hs = both_right (is_decimal g) _ hr in
-      rw (h, number _ vx _ (both_left _ _ h) p, number _ vg _ (both_left _ _ hr) q, number _ vv _ (both_left _ _ hs) r, s)
+  pub a_write : (vx vg vv : ℕ) (b : Bool) → Some vx ≡ decimal x → Some vg ≡ decimal g → Some vv ≡ hex v → Some b ≡ order o → writes vx vg vv b ≡ write_line x g v o
+  unfolding write_line both
+  a_write vx vg vv b hx hg hv ho =
+      let p = a_decimal _ _ hx in
+      let q = a_decimal _ _ hg in
+      let r = a-hex _ _ hv in
+      let s = an_order _ _ ho in
+      rw (p.0, q.0, r.0, s.0, p.1, q.1, r.1, s.1)
 
 -- the rest is one field
 module _ (rest : List ℕ) (e : fields rest ≡ rest ∷ []) where
@@ -112,10 +106,16 @@ module _ (rest : List ℕ) (e : fields rest ≡ rest ∷ []) where
         no-write-line h = rw (e, h)
 
 -- every line has a field, so six are no line
-pub no_six : (a b c d e xs : List ℕ) → bad ≡ of_fields (a ∷ b ∷ c ∷ d ∷ e ∷ fields xs)
+more : (a b c d e : List ℕ) (space : Bool) (x : ℕ) (fs : List (List ℕ)) → bad ≡ of_fields (a ∷ b ∷ c ∷ d ∷ e ∷ before space x fs)
 unfolding of_fields
-no_six a b c d e xs =
-    ⊎_elim (λ l. rw (fields-more xs _ refl l)) (λ l. rw (fields-last xs _ refl l)) (lt-or-ge (first (space_at xs) (length xs)) (length xs))
+more a b c d e true x fs = refl
+more a b c d e false x [] = refl
+more a b c d e false x (f ∷ fs) = refl
+
+pub no_six : (a b c d e xs : List ℕ) → bad ≡ of_fields (a ∷ b ∷ c ∷ d ∷ e ∷ fields xs)
+unfolding of_fields fields
+no_six a b c d e [] = refl
+no_six a b c d e (x ∷ xs) = more a b c d e (eqb x 32) x (fields xs)
 
 pub too_long : (xs : List ℕ) → 64 < length xs → bad ≡ asks_for xs
 unfolding asks_for

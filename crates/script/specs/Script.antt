@@ -1,9 +1,9 @@
 -- 01 "The replay program": the form of a script's line, and what it asks for.
-use Rattle.std.specs.Prelude.{List, [], ◌∷◌, Bool, true, false, ℕ, zero, suc, ◌+◌, ◌-◌, ◌*◌, eqb, ltb, leb, length, get_or}
+use Rattle.std.specs.Prelude.{List, [], ◌∷◌, Bool, true, false, ℕ, zero, suc, ◌+◌, ◌-◌, ◌*◌, eqb, ltb, leb, length, get_or, Option, Some, None}
 use Rattle.laws.specs.Choice.{pick, both, either}
 use Rattle.laws.specs.Scan.{all}
 use Rattle.script.specs.declared.Command.{Command}
-use Rattle.script.specs.declared.Command.TheVariants.{New, Read, Write, Step, Drain, Bad}
+use Rattle.script.specs.declared.Command.TheVariants.{New, Read, Write, Step, Drain}
 
 -- "Line 1: `n N L T` .. Then `r T G O`, `w T G V O`, `s T`, `d`: issue a read or write, step, drain." `bad` is any other line.
 pub data Asks : Type 0 where
@@ -14,14 +14,14 @@ pub data Asks : Type 0 where
   drains : Asks
   bad : Asks
 
--- what each case of a command asks for
-abbrev pub asks : Command → Asks
-asks (New n l t) = news n l t
-asks (Read x g bottom) = reads x g bottom
-asks (Write x g v bottom) = writes x g v bottom
-asks (Step x) = steps x
-asks Drain = drains
-asks Bad = bad
+-- what each case of a command asks for; no command is any other line
+abbrev pub asks : Option Command → Asks
+asks None = bad
+asks (Some (New n l t)) = news n l t
+asks (Some (Read x g bottom)) = reads x g bottom
+asks (Some (Write x g v bottom)) = writes x g v bottom
+asks (Some (Step x)) = steps x
+asks (Some Drain) = drains
 
 -- "single spaces": a line is its fields with one space between two
 abbrev pub before : (space : Bool) → ℕ → List (List ℕ) → List (List ℕ)
@@ -46,12 +46,19 @@ spells base f (suc i) = spells base f i * base + digit_of (get_or f i 0)
 unfoldable pub is_numeral : (base least most : ℕ) → List ℕ → Bool
 is_numeral base least most f = both (both (leb least (length f)) (leb (length f) most)) (all (λ i. ltb (digit_of (get_or f i 0)) base) (length f))
 
+-- the number that a field spells; none where it is not of so many digits
+unfoldable pub numeral : (base least most : ℕ) → List ℕ → Option ℕ
+numeral base least most f = pick (is_numeral base least most f) (Some (spells base f (length f))) None
+
 -- "other numbers decimal, 1 to 9 digits"
 abbrev pub is_decimal : List ℕ → Bool
 is_decimal f = is_numeral 10 1 9 f
 
 abbrev pub decimal_of : List ℕ → ℕ
 decimal_of f = spells 10 f (length f)
+
+abbrev pub decimal : List ℕ → Option ℕ
+decimal f = numeral 10 1 9 f
 
 -- "V is 8 lower-case hex digits"
 abbrev pub is_hex : List ℕ → Bool
@@ -60,6 +67,9 @@ is_hex f = is_numeral 16 8 8 f
 abbrev pub hex_of : List ℕ → ℕ
 hex_of f = spells 16 f (length f)
 
+abbrev pub hex : List ℕ → Option ℕ
+hex f = numeral 16 8 8 f
+
 -- a field that is one letter
 unfoldable pub is_letter : List ℕ → ℕ → Bool
 is_letter f c = both (eqb (length f) 1) (eqb (get_or f 0 0) c)
@@ -67,6 +77,10 @@ is_letter f c = both (eqb (length f) 1) (eqb (get_or f 0 0) c)
 -- "O is `t` or `b`"
 unfoldable pub is_order : List ℕ → Bool
 is_order f = either (is_letter f 116) (is_letter f 98)
+
+-- the order of a field, whether it is `b`; none where it is no order
+unfoldable pub order : List ℕ → Option Bool
+order f = pick (is_order f) (Some (is_letter f 98)) None
 
 -- `s T`
 unfoldable pub step_line : List ℕ → Asks

@@ -1,10 +1,13 @@
 -- Laws of whole lines: each answer's text piece by piece, and that no line is longer than `most`.
 use mathlib.Core.Path.{◌≡◌, sym}
 use mathlib.Core.List.{List, [], ◌∷◌, ◌++◌, append_assoc}
-use Prim.Native.Nat.{ℕ, ◌+◌, ◌≤◌, ◌<◌}
+use Prim.Native.Nat.{ℕ, ◌+◌, ◌-◌, ◌≤◌, ◌<◌}
 use native.Mathlib.Omega.{arith}
 use lib.ListN.{length, length-append}
-use borrow.Author.Tests.{le-leb, lt-leb}
+use borrow.Author.Tests.{le-leb, leb-true}
+use lib.Dec.{leb}
+use mathlib.Core.Bool.{true, false}
+use Rattle.laws.proofs.Choice.{same_truth}
 use Rattle.laws.specs.Bytes.{splice, fits}
 use Rattle.tracker.specs.Answer.{Said, ok, wait, moved, read, done, same, no, says}
 use Rattle.tracker.specs.declared.Answer.{Answer}
@@ -166,17 +169,27 @@ module _ (m : List ℕ) (a k : ℕ) (said : Said) (t : Transfers) {m1 m2 m3 m4 :
       )
 
 -- where there is room, and where there is none
+pub room_is : (m : List ℕ) (a : ℕ) → fits m a most ≡ true → a + most ≤ length m
+unfolding fits
+room_is m a h = leb-true _ _ h
+
 module _ (m : List ℕ) (a k : ℕ) (said : Said) (t : Transfers) where
-  pub room : a + most ≤ length m → line_text k said t ≡ line_in m a k said t
-  unfolding line_in fits
-  room h = rw (le-leb (a + most) (length m) h)
+  pub room : fits m a most ≡ true → line_text k said t ≡ line_in m a k said t
+  unfolding line_in
+  room h = rw h
 
-  no_line : length m < a + most → line_in m a k said t ≡ []
-  unfolding line_in fits
-  no_line h = rw (lt-leb (a + most) (length m) h)
+  no_line : fits m a most ≡ false → line_in m a k said t ≡ []
+  unfolding line_in
+  no_line h = rw h
 
-  pub no_room : length m < a + most → (m ≡ splice m a (line_in m a k said t)) × (a ≡ a + length (line_in m a k said t))
+  pub no_room : fits m a most ≡ false → (m ≡ splice m a (line_in m a k said t)) × (a ≡ a + length (line_in m a k said t))
   no_room h = rw (no_line h) (sym (splice-none m a), omega arith)
+
+-- a + n in l, told by what is left of l
+pub leb_minus : (a n l : ℕ) → n ≤ l → leb a (l - n) ≡ leb (a + n) l
+leb_minus a n l h = same_truth _ _
+    (λ t. let q : a ≤ l - n = leb-true _ _ t in le-leb (a + n) l (omega arith))
+    (λ t. let q : a + n ≤ l = leb-true _ _ t in le-leb a (l - n) (omega arith))
 
 -- no answer says more than 25 bytes and gains more than 15, and no line is longer than `most`
 pub said-≤ : (said : Said) → Narrow said → length (said_text said) ≤ 25

@@ -1,11 +1,9 @@
 -- Laws of text put into a list: byte by byte, digit by digit, and one text after another.
 use mathlib.Core.Path.{◌≡◌, refl, sym, ◌∙◌}
-use mathlib.Core.List.{List, ◌++◌, append_assoc}
+use mathlib.Core.List.{List, ◌++◌}
 use Prim.Native.Nat.{ℕ, suc, ◌+◌, ◌-◌, ◌/◌, ◌%◌, ◌^◌, ◌≤◌, ◌<◌}
-use native.Mathlib.Numerals.{add-one}
 use native.Mathlib.Omega.{arith}
-use lib.ListN.{length, take, drop, get_or, set, length-append}
-use lib.Seq.{take-length, paste, paste-zero, paste-suc}
+use lib.ListN.{length, set, length-append}
 use Rattle.laws.specs.Bytes.{splice}
 use Rattle.laws.proofs.Writes.{splice-none, splice-cons, splice-then}
 use Rattle.wording.specs.Text.{digit_text, digits}
@@ -18,17 +16,6 @@ module _ (m : List ℕ) (a : ℕ) (b c : List ℕ) where
 
   pub then-end : {p q : ℕ} → p ≡ a + length b → q ≡ p + length c → q ≡ a + length (b ++ c)
   then-end f g = simp length-append (omega arith)
-
--- a copy byte by byte
-pub copy-none : (m : List ℕ) (a : ℕ) (s : List ℕ) → m ≡ paste m a s 0
-copy-none m a s = paste-zero m a s
-
-pub copy_more : (m : List ℕ) (a : ℕ) (s : List ℕ) (i : ℕ) → a + i < length m → i < length s → set (paste m a s i) (a + i) (get_or s i 0) ≡ paste m a s (i + 1)
-copy_more m a s i h l = rw (add-one i) (paste-suc m a s i 0 h l)
-
-pub copy-all : (m : List ℕ) (a : ℕ) (s : List ℕ) (i : ℕ) → i ≡ length s → paste m a s i ≡ splice m a s
-unfolding splice
-copy-all m a s i e = rw (e, take-length) (append_assoc (take a m) s (drop (a + length s) m))
 
 -- digits from the last to the first
 module _ (m : List ℕ) (at base w v left : ℕ) where

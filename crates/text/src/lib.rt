@@ -3,7 +3,7 @@
 #![tactic(auto)]
 
 ghost use Rattle.std.specs.Prelude.{◌≡◌, ◌++◌, ◌+◌, ◌≤◌, ◌<◌, length};
-ghost use Rattle.laws.specs.Bytes.{splice};
+ghost use Rattle.laws.specs.Bytes.{splice, fits};
 ghost use Rattle.tracker.specs.Answer.{says, read};
 ghost use Rattle.wording.specs.Text.{digit_text, digits, places, decimal, said_text, transfers_text, gains, line_text, most, line_in};
 
@@ -12,49 +12,23 @@ use tracker::{Answer, Transfers};
 // The bytes that are kept free for a line; none is longer.
 pub const MOST: usize = 64;
 
-fn wide8(x: u8) -> u64
-    ensures { (result ≡ x) × (result < 256) }
-{
-    x as u64
-}
-
-fn wide16(x: u16) -> u64
-    ensures { (result ≡ x) × (result < 65536) }
-{
-    x as u64
-}
-
-fn wide32(x: u32) -> u64
-    ensures { result ≡ x }
-{
-    x as u64
-}
-
 // A digit's byte.
 fn digit(d: u64) -> u8
     requires { d < 16 }
     ensures { result ≡ digit_text d }
 {
     if d < 10 {
-        return (d + 48) as u8;
+        b'0' + d as u8
+    } else {
+        b'a' + (d - 10) as u8
     }
-    (d + 87) as u8
 }
 
 // How many decimal digits v has: at most 20.
 fn count(v: u64) -> usize
     ensures { result ≡ places v }
 {
-    let mut i: usize = 0;
-    let mut top: u64 = 10;
-    while top <= v {
-        if i == 18 {
-            return 20;
-        }
-        top = top * 10;
-        i += 1;
-    }
-    i + 1
+    if v == 0 { 1 } else { v.ilog10() as usize + 1 }
 }
 
 // The text goes into `out` from `at`; gives the place after it.
@@ -62,12 +36,9 @@ fn put(out: &mut [u8], at: usize, text: &[u8]) -> usize
     requires { at + length text.now ≤ length out.old }
     ensures { (out.new ≡ splice out.old at text.now) × (result ≡ at + length text.now) }
 {
-    let mut i = 0;
-    while i < text.len() {
-        out[at + i] = text[i];
-        i += 1;
-    }
-    at + i
+    let end = at + text.len();
+    out[at..end].copy_from_slice(text);
+    end
 }
 
 // The w digits of v go into `out` from `at`, the last first.
@@ -76,11 +47,9 @@ fn put_digits(out: &mut [u8], at: usize, base: u64, w: usize, v: u64)
     ensures { out.new ≡ splice out.old at (digits base w v) }
 {
     let mut rest = v;
-    let mut left = w;
-    while 0 < left {
-        left -= 1;
-        out[at + left] = digit(rest % base);
-        rest = rest / base;
+    for i in (0..w).rev() {
+        out[at + i] = digit(rest % base);
+        rest /= base;
     }
 }
 
@@ -122,10 +91,10 @@ fn put_said(out: &mut [u8], at: usize, answer: Answer) -> usize
         Answer::Accepted => put(out, at, b"ok"),
         Answer::Wait => put(out, at, b"wait"),
         Answer::Moved => put(out, at, b"moved"),
-        Answer::Read(v, k) => put_read(out, at, wide32(v), wide16(k)),
-        Answer::Done(k) => put_count(out, at, b"done turns ", wide16(k)),
-        Answer::Same(k) => put_count(out, at, b"same turns ", wide16(k)),
-        Answer::No(c) => put_count(out, at, b"no ", wide8(c)),
+        Answer::Read(v, k) => put_read(out, at, u64::from(v), u64::from(k)),
+        Answer::Done(k) => put_count(out, at, b"done turns ", u64::from(k)),
+        Answer::Same(k) => put_count(out, at, b"same turns ", u64::from(k)),
+        Answer::No(c) => put_count(out, at, b"no ", u64::from(c)),
     }
 }
 
@@ -134,8 +103,8 @@ fn put_transfers(out: &mut [u8], at: usize, transfers: Transfers) -> usize
     requires { at + 15 ≤ length out.old }
     ensures { (out.new ≡ splice out.old at (transfers_text transfers)) × (result ≡ at + length (transfers_text transfers)) × (result ≤ at + 15) }
 {
-    let p = put_count(out, at, b" in ", wide8(transfers.fetched));
-    put_count(out, p, b" out ", wide8(transfers.back))
+    let p = put_count(out, at, b" in ", u64::from(transfers.fetched));
+    put_count(out, p, b" out ", u64::from(transfers.back))
 }
 
 // What the answer gains, at most 15 bytes; gives the place after it.
@@ -144,13 +113,8 @@ fn put_gains(out: &mut [u8], at: usize, answer: Answer, transfers: Transfers) ->
     ensures { (out.new ≡ splice out.old at (gains (says answer) transfers)) × (result ≡ at + length (gains (says answer) transfers)) × (result ≤ at + 15) }
 {
     match answer {
-        Answer::Accepted => at,
-        Answer::Wait => at,
-        Answer::Moved => at,
-        Answer::Read(_, _) => put_transfers(out, at, transfers),
-        Answer::Done(_) => put_transfers(out, at, transfers),
-        Answer::Same(_) => put_transfers(out, at, transfers),
-        Answer::No(_) => at,
+        Answer::Read(..) | Answer::Done(_) | Answer::Same(_) => put_transfers(out, at, transfers),
+        Answer::Accepted | Answer::Wait | Answer::Moved | Answer::No(_) => at,
     }
 }
 
@@ -174,15 +138,20 @@ fn put_room(out: &mut [u8], at: usize, k: u64, answer: Answer, transfers: Transf
     put(out, e, b"\n")
 }
 
+// There is room in `out` from `at` for any line.
+pub fn has_room(out: &[u8], at: usize) -> bool
+    ensures { result ≡ fits out.now at most }
+{
+    MOST <= out.len() && at <= out.len() - MOST
+}
+
 // The line goes into `out` from `at` where there is room for any line, else nothing changes; gives the place after it.
 pub fn put_line(out: &mut [u8], at: usize, k: u64, answer: Answer, transfers: Transfers) -> usize
     ensures { (out.new ≡ splice out.old at (line_in out.old at k (says answer) transfers)) × (result ≡ at + length (line_in out.old at k (says answer) transfers)) }
 {
-    if out.len() < MOST {
-        return at;
+    if has_room(out, at) {
+        put_room(out, at, k, answer, transfers)
+    } else {
+        at
     }
-    if out.len() - MOST < at {
-        return at;
-    }
-    put_room(out, at, k, answer, transfers)
 }

@@ -3,7 +3,7 @@ use mathlib.Core.Path.{◌≡◌, refl, ap, sym, ◌∙◌}
 use mathlib.Core.List.{[], ◌∷◌}
 use mathlib.Core.Logic.{⊎_elim}
 use Prim.Native.Nat.{ℕ, zero, suc, ◌+◌, ◌-◌, ◌*◌, ◌/◌, ◌%◌, ◌^◌, ◌≤◌, ◌<◌}
-use native.Mathlib.Nat.{pow-succ', pow-zero, pow-le-pow_right, mul_comm, div-div-eq-div-mul}
+use native.Mathlib.Nat.{pow-succ', pow-zero, mul_comm, div-div-eq-div-mul}
 use native.Mathlib.Numerals.{add-one}
 use native.Mathlib.Omega.{arith}
 use lib.ListN.{length}
@@ -14,9 +14,6 @@ use Rattle.wording.specs.Text.{digit_text, digits, places_by, places_in, places,
 pub pow_pos : (i : ℕ) → 0 < 10 ^ i
 pow_pos zero = omega arith
 pow_pos (suc i) = omega (arith, pow_pos i, pow-succ' 10 i)
-
-pub power-fits : (i : ℕ) → i < 18 → 10 ^ (i + 1) ≤ 1000000000000000000
-power-fits i h = pow-le-pow_right {n = 10} (omega arith) {i = i + 1} {j = 18} (omega arith)
 
 places_in-none : (v : ℕ) → places_in 0 v ≡ 1
 unfolding places_in
@@ -52,18 +49,9 @@ places_in-≤ (suc n) (suc times) v h =
 
 -- a turn of the count
 module _ (v i top : ℕ) (t : top ≡ 10 ^ (i + 1)) where
-  pub next_power : top * 10 ≡ 10 ^ (i + 1 + 1)
-  next_power = let h : 10 ^ suc (i + 1) ≡ 10 * 10 ^ (i + 1) = pow-succ' 10 (i + 1) in rw (add-one (i + 1)) (omega arith)
-
   pub places_is : (0 < i → 10 ^ i ≤ v) → v < top → i + 1 ≡ places v
   unfolding places
   places_is low high = rw add-one (sym (places_in-is i v v (omega arith) low (rw (t, add-one) at high)))
-
--- no number of 64 bits has more than 20
-pub twenty : (v i top : ℕ) → i ≡ 18 → top ≡ 10 ^ (i + 1) → top ≤ v → v < 18446744073709551616 → 20 ≡ places v
-twenty v i top q t h l =
-    let b : top ≡ 10000000000000000000 = rw q at t in
-    places_is v 19 100000000000000000000 refl (λ _. omega arith) (omega arith)
 
 -- as many digits as the power has are enough
 pub places-≤ : (v n : ℕ) → v < 10 ^ suc n → places v ≤ suc n

@@ -5,7 +5,7 @@ use Rattle.play.proofs.Ways.{plays-not, plays-ready}
 use Rattle.play.proofs.play.Goals as goal
 
 pub returns-then-not-is_ready : goal.returns-then-not-is_ready
-returns-then-not-is_ready c = sym (plays-not _ _ _ _ (sym c.is_ready.ensures ∙ c.if-not-is_ready.true))
+returns-then-not-is_ready c = rw c.start.ensures (sym (plays-not _ _ _ _ (sym c.is_ready.ensures ∙ c.if-not-is_ready.true)))
 
 pub play_lines-requires : goal.play_lines-requires
 play_lines-requires c = let f = sym c.is_ready.ensures ∙ c.if-not-is_ready.false in

@@ -1,13 +1,22 @@
--- `script::new_line_lem` meets its contract: by whether each field is a number.
-use mathlib.Core.Path.{◌∙◌, sym}
+-- `script::new_line` meets its contract: by whether each field is a number.
+use Rattle.laws.proofs.Choice.{both-false-left, both-false-right}
+use Rattle.script.proofs.Laws.{no_decimal}
 use Rattle.script.proofs.Lines.{not_new, a-new}
 use Rattle.script.proofs.new_line.Goals as goal
 
-pub returns-then-not-and : goal.returns-then-not-and
-returns-then-not-and c =
-    not_new _ _ _ (rw (← c.decimal-leaves.ensures.0, ← c.decimal-lines.ensures.0, ← c.decimal-trackers.ensures.0, ← c.and.ensures) (sym c.and-2.ensures ∙ c.if-not-and.true))
+pub returns-in_err-decimal : goal.returns-in_err-decimal
+returns-in_err-decimal c =
+    rw c.from_residual.ensures (not_new _ _ _ (both-false-left _ _ (no_decimal _ c.in_err-decimal.ensures)))
+
+pub returns-in_err-decimal-2 : goal.returns-in_err-decimal-2
+returns-in_err-decimal-2 c =
+    rw c.from_residual-in_err-decimal-2.ensures
+    (not_new _ _ _ (both-false-right _ _ (both-false-left _ _ (no_decimal _ c.in_err-decimal-2.ensures))))
+
+pub returns-in_err-decimal-3 : goal.returns-in_err-decimal-3
+returns-in_err-decimal-3 c =
+    rw c.from_residual-in_err-decimal-3.ensures
+    (not_new _ _ _ (both-false-right _ _ (both-false-right _ _ (no_decimal _ c.in_err-decimal-3.ensures))))
 
 pub returns : goal.returns
-returns c =
-    a-new _ _ _ _ _ _ (rw (← c.decimal-leaves.ensures.0, ← c.decimal-lines.ensures.0, ← c.decimal-trackers.ensures.0, ← c.and.ensures) (sym c.and-2.ensures ∙ c.if-not-and.false))
-    c.decimal-leaves.ensures.1 c.decimal-lines.ensures.1 c.decimal-trackers.ensures.1
+returns c = a-new _ _ _ _ _ _ c.in_ok-decimal.ensures c.in_ok-decimal-2.ensures c.in_ok-decimal-3.ensures

@@ -1,13 +1,9 @@
--- `script::step_line_lem` meets its contract: by whether the field is a number.
-use borrow.Author.Tests.{not-true, not-false}
-use mathlib.Core.Path.{◌∙◌, sym}
+-- `script::step_line` meets its contract: by whether the field is a number.
 use Rattle.script.proofs.Lines.{not_step, a-step}
 use Rattle.script.proofs.step_line.Goals as goal
 
-pub returns-then-not-tracker : goal.returns-then-not-tracker
-returns-then-not-tracker c =
-    not_step _ (sym c.decimal-tracker.ensures.0 ∙ not-true _ c.if-not-tracker.true)
+pub returns-in_err-decimal : goal.returns-in_err-decimal
+returns-in_err-decimal c = rw c.from_residual.ensures (not_step _ c.in_err-decimal.ensures)
 
 pub returns : goal.returns
-returns c =
-    a-step _ _ (sym c.decimal-tracker.ensures.0 ∙ not-false _ c.if-not-tracker.false) c.decimal-tracker.ensures.1
+returns c = a-step _ _ c.in_ok-decimal.ensures

@@ -1,13 +1,28 @@
 -- `script::write_line` meets its contract: by whether each field is what its place asks.
-use mathlib.Core.Path.{◌∙◌, sym}
+use Rattle.laws.proofs.Choice.{both-false-left, both-false-right}
+use Rattle.script.proofs.Laws.{no_decimal, no-hex, no_order}
 use Rattle.script.proofs.Lines.{not-write, a_write}
 use Rattle.script.proofs.write_line.Goals as goal
 
-pub returns-then-not-and : goal.returns-then-not-and
-returns-then-not-and c =
-    not-write _ _ _ _ (rw (← c.decimal-tracker.ensures.0, ← c.decimal-group.ensures.0, ← c.hex-value.ensures.0, ← c.is_order.ensures, ← c.and.ensures, ← c.and-2.ensures) (sym c.and-3.ensures ∙ c.if-not-and.true))
+pub returns-in_err-decimal : goal.returns-in_err-decimal
+returns-in_err-decimal c =
+    rw c.from_residual.ensures (not-write _ _ _ _ (both-false-left _ _ (no_decimal _ c.in_err-decimal.ensures)))
+
+pub returns-in_err-decimal-2 : goal.returns-in_err-decimal-2
+returns-in_err-decimal-2 c =
+    rw c.from_residual-in_err-decimal-2.ensures
+    (not-write _ _ _ _ (both-false-right _ _ (both-false-left _ _ (no_decimal _ c.in_err-decimal-2.ensures))))
+
+pub returns-in_err-hex : goal.returns-in_err-hex
+returns-in_err-hex c =
+    rw c.from_residual-in_err-hex.ensures
+    (not-write _ _ _ _ (both-false-right _ _ (both-false-right _ _ (both-false-left _ _ (no-hex _ c.in_err-hex.ensures)))))
+
+pub returns-in_err-order : goal.returns-in_err-order
+returns-in_err-order c =
+    rw c.from_residual-in_err-order.ensures
+    (not-write _ _ _ _ (both-false-right _ _ (both-false-right _ _ (both-false-right _ _ (no_order _ c.in_err-order.ensures)))))
 
 pub returns : goal.returns
 returns c =
-    a_write _ _ _ _ _ _ _ _ (rw (← c.decimal-tracker.ensures.0, ← c.decimal-group.ensures.0, ← c.hex-value.ensures.0, ← c.is_order.ensures, ← c.and.ensures, ← c.and-2.ensures) (sym c.and-3.ensures ∙ c.if-not-and.false))
-    c.decimal-tracker.ensures.1 c.decimal-group.ensures.1 c.hex-value.ensures.1 c.is_letter.ensures
+    a_write _ _ _ _ _ _ _ _ c.in_ok-decimal.ensures c.in_ok-decimal-2.ensures c.in_ok-hex.ensures c.in_ok-order.ensures

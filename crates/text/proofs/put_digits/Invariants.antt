@@ -1,14 +1,10 @@
--- `text::put_digits` meets its contract: the digits after `left` are in place, and `rest` is what is left of v.
+-- `text::put_digits` meets its contract: the digits after `i` are in place, and `rest` is what is left of v.
 use mathlib.Core.Path.{◌≡◌}
-use Prim.Native.Nat.{◌≤◌, ◌+◌, ◌-◌, ◌/◌, ◌^◌}
-use lib.ListN.{length}
+use Prim.Native.Nat.{◌+◌, ◌-◌, ◌/◌, ◌^◌}
 use Rattle.laws.specs.Bytes.{splice}
 use Rattle.wording.specs.Text.{digits}
 use Rattle.text.proofs.put_digits.Given as goal
 
-abbrev pub invariant-loop-left : goal.invariant-loop-left
-invariant-loop-left l =
-    (l.left ≤ l.w) × (length l.out ≡ length l.initial.out) × (l.out ≡ splice l.initial.out (l.at + l.left) (digits l.base (l.w - l.left) l.v)) × (l.rest ≡ l.v / l.base ^ (l.w - l.left))
-
-abbrev pub decreases-loop-left : goal.decreases-loop-left
-decreases-loop-left l = l.left
+abbrev pub invariant-loop-i : goal.invariant-loop-i
+invariant-loop-i l =
+    (l.out ≡ splice l.initial.out (l.at + l.i) (digits l.base (l.w - l.i) l.v)) × (l.rest ≡ l.v / l.base ^ (l.w - l.i))

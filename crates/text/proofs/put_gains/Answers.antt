@@ -1,31 +1,18 @@
--- `text::put_gains` meets its contract: an ending's transfers, else nothing.
+-- `text::put_gains` meets its contract: the transfers of an ending, or nothing.
+use mathlib.Core.Logic.{⊎_elim}
 use Rattle.text.proofs.Lines.{gains-ok, gains-wait, gains-moved, gains-read, gains-done, gains-same, gains-no, gains-none, gains-put}
 use Rattle.text.proofs.put_gains.Goals as goal
 
-pub returns-in-Accepted : goal.returns-in-Accepted
-returns-in-Accepted c =
-    gains-none c.args.answer c.args.transfers c.args.out.now c.args.at (gains-ok c.args.answer c.args.transfers c.in-Accepted.is)
-
-pub returns-in-Wait : goal.returns-in-Wait
-returns-in-Wait c =
-    gains-none c.args.answer c.args.transfers c.args.out.now c.args.at (gains-wait c.args.answer c.args.transfers c.in-Wait.is)
-
-pub returns-in-Moved : goal.returns-in-Moved
-returns-in-Moved c =
-    gains-none c.args.answer c.args.transfers c.args.out.now c.args.at (gains-moved c.args.answer c.args.transfers c.in-Moved.is)
-
 pub returns-in-Read : goal.returns-in-Read
 returns-in-Read c =
-    gains-put c.args.answer c.args.transfers c.args.out.now c.args.at (gains-read c.args.answer c.args.transfers _ _ c.in-Read.is) c.put_transfers.ensures
+    let a = c.args in
+    gains-put a.answer a.transfers a.out.now a.at
+    (⊎_elim (λ p. gains-read _ _ p.0 p.1 p.2) (λ p. ⊎_elim (λ q. gains-done _ _ q.0 q.1) (λ q. gains-same _ _ q.0 q.1) p) c.in-Read.is)
+    c.put_transfers.ensures
 
-pub returns-in-Done : goal.returns-in-Done
-returns-in-Done c =
-    gains-put c.args.answer c.args.transfers c.args.out.now c.args.at (gains-done c.args.answer c.args.transfers _ c.in-Done.is) c.put_transfers-in-Done.ensures
-
-pub returns-in-Same : goal.returns-in-Same
-returns-in-Same c =
-    gains-put c.args.answer c.args.transfers c.args.out.now c.args.at (gains-same c.args.answer c.args.transfers _ c.in-Same.is) c.put_transfers-in-Same.ensures
-
-pub returns-in-No : goal.returns-in-No
-returns-in-No c =
-    gains-none c.args.answer c.args.transfers c.args.out.now c.args.at (gains-no c.args.answer c.args.transfers _ c.in-No.is)
+pub returns-in-Accepted : goal.returns-in-Accepted
+returns-in-Accepted c =
+    let a = c.args in
+    gains-none a.answer a.transfers a.out.now a.at
+    (⊎_elim (λ p. gains-ok _ _ p)
+    (λ p. ⊎_elim (λ q. gains-wait _ _ q) (λ q. ⊎_elim (λ r. gains-moved _ _ r) (λ r. gains-no _ _ r.0 r.1) q) p) c.in-Accepted.is)

@@ -6,19 +6,19 @@ use Rattle.text.proofs.put_said.Goals as goal
 
 pub put_read-requires : goal.put_read-requires
 put_read-requires c =
-    omega (arith, places-16 c.wide16.result c.wide16.ensures.1)
+    omega (arith, places-16 c.from-in-Read.result (omega arith))
 
 pub put_count-requires : goal.put_count-requires
 put_count-requires c =
-    omega (arith, places-16 c.wide16-in-Done.result c.wide16-in-Done.ensures.1)
+    omega (arith, places-16 c.from-in-Done.result (omega arith))
 
 pub put_count-requires-in-Same : goal.put_count-requires-in-Same
 put_count-requires-in-Same c =
-    omega (arith, places-16 c.wide16-in-Same.result c.wide16-in-Same.ensures.1)
+    omega (arith, places-16 c.from-in-Same.result (omega arith))
 
 pub put_count-requires-in-No : goal.put_count-requires-in-No
 put_count-requires-in-No c =
-    omega (arith, places-8 c.wide8.result c.wide8.ensures.1)
+    omega (arith, places-8 c.from-in-No.result (omega arith))
 
 pub returns-in-Accepted : goal.returns-in-Accepted
 returns-in-Accepted c =
@@ -42,27 +42,27 @@ pub returns-in-Read : goal.returns-in-Read
 returns-in-Read c =
     let a = c.args in
     let e = c.put_read.ensures in
-    let w = c.wide16 in
-    let x = c.wide32 in
-    said_put a.answer a.out.now a.at _ (says-read a.answer x.result w.result _ _ c.in-Read.is x.ensures w.ensures.0) (omega (arith, length-read x.result w.result, places-16 w.result w.ensures.1)) e.0 e.1
+    let w = c.from-in-Read in
+    let x = c.from in
+    said_put a.answer a.out.now a.at _ (says-read a.answer x.result w.result _ _ c.in-Read.is x.ensures w.ensures) (omega (arith, length-read x.result w.result, places-16 w.result (omega arith))) e.0 e.1
 
 pub returns-in-Done : goal.returns-in-Done
 returns-in-Done c =
     let a = c.args in
     let e = c.put_count.ensures in
-    let w = c.wide16-in-Done in
-    said_put a.answer a.out.now a.at _ (says-done a.answer w.result _ c.in-Done.is w.ensures.0) (omega (arith, length-decimal w.result, places-16 w.result w.ensures.1)) e.0 e.1
+    let w = c.from-in-Done in
+    said_put a.answer a.out.now a.at _ (says-done a.answer w.result _ c.in-Done.is w.ensures) (omega (arith, length-decimal w.result, places-16 w.result (omega arith))) e.0 e.1
 
 pub returns-in-Same : goal.returns-in-Same
 returns-in-Same c =
     let a = c.args in
     let e = c.put_count-in-Same.ensures in
-    let w = c.wide16-in-Same in
-    said_put a.answer a.out.now a.at _ (says_same a.answer w.result _ c.in-Same.is w.ensures.0) (omega (arith, length-decimal w.result, places-16 w.result w.ensures.1)) e.0 e.1
+    let w = c.from-in-Same in
+    said_put a.answer a.out.now a.at _ (says_same a.answer w.result _ c.in-Same.is w.ensures) (omega (arith, length-decimal w.result, places-16 w.result (omega arith))) e.0 e.1
 
 pub returns-in-No : goal.returns-in-No
 returns-in-No c =
     let a = c.args in
     let e = c.put_count-in-No.ensures in
-    let w = c.wide8 in
-    said_put a.answer a.out.now a.at _ (says-no a.answer w.result _ c.in-No.is w.ensures.0) (omega (arith, length-decimal w.result, places-8 w.result w.ensures.1)) e.0 e.1
+    let w = c.from-in-No in
+    said_put a.answer a.out.now a.at _ (says-no a.answer w.result _ c.in-No.is w.ensures) (omega (arith, length-decimal w.result, places-8 w.result (omega arith))) e.0 e.1
