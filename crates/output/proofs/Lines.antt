@@ -4,7 +4,7 @@ use Rattle.std.specs.Bool.{Decides, then_some}
 use Rattle.std.specs.Str.{bytes_eq}
 use Rattle.std.proofs.lemmas.List.{get_or-take, get_or-drop, length-take, length-drop, take_all, ext_get_or, get_or_default}
 use Rattle.std.specs.List.{AllPass}
-use Rattle.std.proofs.lemmas.Bool.Decides.{Decides-eqb}
+use Rattle.std.proofs.lemmas.Bool.Decides.{Decides-eqb, nat_tests}
 use Rattle.std.proofs.lemmas.Slice.Eq.{slice_eq-Decides}
 use borrow.Author.Tests.{le-leb, lt-leb, leb-true, eq-eqb, ne_eqb, eqb-true}
 use lib.Dec.{eqb, leb}
@@ -125,10 +125,6 @@ module _ (s : List ℕ) (at : ℕ) where
       let m : k < 8 = omega (arith, part-length s at 8 f) in
       ap hex_of (get_or_default (take 8 (drop at s)) k d 0 l ∙ part-get s at 8 k m) ∙ value-digit h k m))
 
-  pub value-fits : value_at s at ≡ true → at + 8 ≤ length s
-  unfolding value_at
-  value-fits h = leb-true (at + 8) (length s) (both_left (leb (at + 8) (length s)) (all (λ k. hex_of (get_or s (at + k) 0)) 8) h)
-
 -- r is what the digit at the place was found to be
 module _ (s : List ℕ) (at r : ℕ) (e : r ≡ digit_at s at) where
   pub digits-stop : (f v : ℕ) → r ≡ 10 → counted v at ≡ digits_from f s at v
@@ -159,3 +155,6 @@ pub closing_tells :
 unfolding closing_at
 closing_tells s at w =
     elim (true-or-false (closes_at s at w)) [ inl h ↦ inl (rw h, h) | inr h ↦ inr (rw h, h) ]
+
+-- what a test says, and a word that was looked for
+pub ruleset tests = (nat_tests, after_tells)
