@@ -51,6 +51,7 @@ fn part(s: &[u8], at: usize, n: usize) -> Option<&[u8]>
 }
 
 // Whether n bytes from i in a and from j in b are there, and are the same.
+#[tactic(auto, using(crate::proofs::Lines::cuts))]
 pub fn alike(a: &[u8], i: usize, b: &[u8], j: usize, n: usize) -> bool
     ensures { result ≡ alike_at a.now i b.now j n }
 {
@@ -61,6 +62,7 @@ pub fn alike(a: &[u8], i: usize, b: &[u8], j: usize, n: usize) -> bool
 }
 
 // The place after the word w, where it stands at a place.
+#[tactic(auto, using(crate::proofs::Lines::words))]
 fn after(s: &[u8], at: usize, w: &[u8]) -> Option<usize>
     ensures { result ≡ after_at s.now at w.now }
 {
