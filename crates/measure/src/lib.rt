@@ -25,7 +25,7 @@ pub struct Pair {
 }
 
 // Whether a from i on and b from j on are the same bytes.
-#[tactic(auto, using(std::proofs::lemmas::Bool::Decides::nat_tests), unfolding(crate::specs::Pair::same_from, laws::specs::Choice::both))]
+#[tactic(auto, using(crate::proofs::Pairs::tests), unfolding(crate::specs::Pair::same_from, laws::specs::Choice::both))]
 fn same_from(a: &[u8], i: usize, b: &[u8], j: usize) -> bool
     ensures { result ≡ same_from a.now i b.now j }
 {
@@ -34,7 +34,7 @@ fn same_from(a: &[u8], i: usize, b: &[u8], j: usize) -> bool
 }
 
 // No ending of the same kind and value in both.
-#[tactic(auto, using(std::proofs::lemmas::Bool::Decides::nat_tests, crate::proofs::Pairs::same_bytes_is), unfolding(crate::specs::Pair::other_pair))]
+#[tactic(auto, using(crate::proofs::Pairs::tests), unfolding(crate::specs::Pair::other_pair))]
 fn other_pair(a: &[u8], b: &[u8]) -> Pair
     ensures { result ≡ other_pair a.now b.now }
 {
@@ -45,7 +45,7 @@ fn other_pair(a: &[u8], b: &[u8]) -> Pair
 }
 
 // An ending of the same kind and value in both.
-#[tactic(auto, using(std::proofs::lemmas::Bool::Decides::nat_tests, crate::proofs::Pairs::same_bytes_is), unfolding(crate::specs::Pair::ending_pair))]
+#[tactic(auto, using(crate::proofs::Pairs::tests), unfolding(crate::specs::Pair::ending_pair))]
 fn ending_pair(a: &[u8], x: Ending, b: &[u8], y: Ending) -> Pair
     ensures { result ≡ ending_pair a.now x.counts x.next b.now y.counts y.next }
 {
@@ -65,7 +65,7 @@ fn ending_pair(a: &[u8], x: Ending, b: &[u8], y: Ending) -> Pair
 }
 
 // A line of the record and the line at the same place of the replay. Endings are of the same kind and value where all bytes before their counts are the same.
-#[tactic(auto, using(std::proofs::lemmas::Bool::Decides::nat_tests), unfolding(crate::specs::Pair::pair_of, crate::specs::Pair::pair_lines, crate::specs::Pair::pair_ending, laws::specs::Choice::both))]
+#[tactic(auto, using(crate::proofs::Pairs::tests), unfolding(crate::specs::Pair::pair_of, crate::specs::Pair::pair_lines, crate::specs::Pair::pair_ending, laws::specs::Choice::both))]
 pub fn compare(recorded: &[u8], replayed: &[u8]) -> Pair
     ensures { result ≡ pair_of recorded.now replayed.now }
 {
@@ -90,7 +90,7 @@ impl Pair {
     }
 
     // How far its turn counts are apart, up or down; 0 where it is no ending of the same kind and value.
-    #[tactic(auto, using(std::proofs::lemmas::Bool::Decides::nat_tests), unfolding(crate::specs::Pair::drift_of))]
+    #[tactic(auto, using(crate::proofs::Pairs::tests), unfolding(crate::specs::Pair::drift_of))]
     pub fn drift(self) -> u32
         ensures { result ≡ drift_of self }
     {
@@ -101,7 +101,7 @@ impl Pair {
     }
 
     // The transfers that the record and the replay tell, where both tell them and one of the two sums is another.
-    #[tactic(auto, using(std::proofs::lemmas::Bool::Decides::nat_tests), unfolding(crate::specs::Pair::differing, crate::specs::Pair::other_transfers, laws::specs::Choice::both))]
+    #[tactic(auto, using(crate::proofs::Pairs::tests), unfolding(crate::specs::Pair::differing, crate::specs::Pair::other_transfers, laws::specs::Choice::both))]
     pub fn other_transfers(self) -> Option<(Transfers, Transfers)>
         ensures { result ≡ differing self }
     {
@@ -112,6 +112,7 @@ impl Pair {
 }
 
 // Blocks fetched and blocks written back, of many endings.
+// Kept: beside output's `Transfers`, of 64 bits (no plainer as one type with a parameter: `plus` could be no method of another crate's type).
 #[derive(Clone, Copy, Default)]
 pub struct Blocks {
     pub fetched: u64,
@@ -134,7 +135,7 @@ pub struct Tally {
 
 impl Blocks {
     // Those of one more ending.
-    #[tactic(auto, using(std::proofs::lemmas::Bool::Decides::nat_tests), unfolding(crate::specs::Sheet::plus_blocks))]
+    #[tactic(auto, using(crate::proofs::Pairs::tests), unfolding(crate::specs::Sheet::plus_blocks))]
     fn plus(self, counts: Counts) -> Blocks
         ensures { result ≡ plus_blocks self counts }
     {
@@ -157,7 +158,7 @@ impl Tally {
     }
 
     // One more place.
-    #[tactic(auto, using(std::proofs::lemmas::Bool::Decides::nat_tests), unfolding(crate::specs::Sheet::added))]
+    #[tactic(auto, using(crate::proofs::Pairs::tests), unfolding(crate::specs::Sheet::added))]
     pub fn add(self, pair: Pair) -> Tally
         ensures { result ≡ added self pair }
     {

@@ -4,7 +4,7 @@ use Rattle.std.specs.Bool.{Decides, then_some}
 use Rattle.std.specs.Str.{bytes_eq}
 use Rattle.std.proofs.lemmas.List.{get_or-take, get_or-drop, length-take, length-drop, take_all, ext_get_or, get_or_default}
 use Rattle.std.specs.List.{AllPass}
-use Rattle.std.proofs.lemmas.Bool.Decides.{Decides-eqb}
+use Rattle.std.proofs.lemmas.Bool.Decides.{Decides-eqb, nat_tests}
 use Rattle.std.proofs.lemmas.Slice.Eq.{slice_eq-Decides}
 use borrow.Author.Tests.{le-leb, lt-leb, leb-true, eq-eqb, ne_eqb, eqb-true}
 use lib.Dec.{eqb, leb}
@@ -15,13 +15,13 @@ use Rattle.laws.proofs.Scan.{all-fails, all-at, all-is}
 use Rattle.output.specs.Line.{alike_at, has_at, after_at, hex_of, value_at, digit_at, counted, digits_from, closes_at, closing_at}
 
 module _ (a : List ℕ) (i : ℕ) (b : List ℕ) (j n : ℕ) where
-  pub alike-short : length a < i + n → false ≡ alike_at a i b j n
+  pub alike_short : length a < i + n → alike_at a i b j n ≡ false
   unfolding alike_at both
-  alike-short h = rw (lt-leb (i + n) (length a) h)
+  alike_short h = rw (lt-leb (i + n) (length a) h)
 
-  pub alike-short-other : length b < j + n → false ≡ alike_at a i b j n
+  pub alike_short_other : length b < j + n → alike_at a i b j n ≡ false
   unfolding alike_at both
-  alike-short-other h = rw (lt-leb (j + n) (length b) h, both-false-right (leb (i + n) (length a)) false refl)
+  alike_short_other h = rw (lt-leb (j + n) (length b) h, both-false-right (leb (i + n) (length a)) false refl)
 
   pub alike-miss : (k : ℕ) → k < n → (get_or a (i + k) 0 ≡ get_or b (j + k) 0 → ⊥) → false ≡ alike_at a i b j n
   unfolding alike_at both
@@ -51,7 +51,7 @@ part-length : (a : List ℕ) (i n : ℕ) → i + n ≤ length a → length (take
 part-length a i n h = omega (arith, length-take n (drop i a), length-drop i a)
 
 -- r is whether n bytes from i in a and from j in b are the same
-pub alike-parts :
+alike-parts :
     (a : List ℕ) (i : ℕ) (b : List ℕ) (j n : ℕ) (r : Bool) →
     i + n ≤ length a →
     j + n ≤ length b →
@@ -70,8 +70,14 @@ alike-parts a i b j n r f g e =
     let m : k < n = omega (arith, part-length a i n f) in
     part-get a i n k m ∙ alike-same a i b j n h k m ∙ sym (part-get b j n k m))))
 
+pub alike_cut : (a : List ℕ) (i : ℕ) (b : List ℕ) (j n : ℕ) → i + n ≤ length a → j + n ≤ length b → alike_at a i b j n ≡ bytes_eq (take n (drop i a)) (take n (drop j b))
+alike_cut a i b j n f g = sym (alike-parts a i b j n _ f g refl)
+
+-- two parts compared
+pub ruleset cuts = (alike_cut, alike_short, alike_short_other)
+
 -- r is whether the bytes at a place are those of the word w
-pub word-part :
+word-part :
     (s : List ℕ) (at : ℕ) (w : List ℕ) (r : Bool) →
     at + length w ≤ length s →
     r ≡ bytes_eq (take (length w) (drop at s)) w →
@@ -81,18 +87,24 @@ word-part s at w r f e =
     let z : take (length w) (drop 0 w) ≡ w = take_all (length w) w (omega arith) in
     alike-parts s at w 0 (length w) r f (omega arith) (rw z e)
 
-pub has-short : (s : List ℕ) (at : ℕ) (w : List ℕ) → length s < at + length w → has_at s at w ≡ false
+has-short : (s : List ℕ) (at : ℕ) (w : List ℕ) → length s < at + length w → has_at s at w ≡ false
 unfolding has_at
-has-short s at w h = sym (alike-short s at w 0 (length w) h)
+has-short s at w h = alike_short s at w 0 (length w) h
 
-pub after-short : (s : List ℕ) (at : ℕ) (w : List ℕ) → length s < at + length w → None ≡ after_at s at w
+pub after_short : (s : List ℕ) (at : ℕ) (w : List ℕ) → length s < at + length w → after_at s at w ≡ None
 unfolding after_at
-after-short s at w h = rw (has-short s at w h)
+after_short s at w h = rw (has-short s at w h)
 
-pub after-is : (s : List ℕ) (at : ℕ) (w : List ℕ) (r : Bool) → r ≡ has_at s at w → then_some r (at + length w) ≡ after_at s at w
+after-is : (s : List ℕ) (at : ℕ) (w : List ℕ) (r : Bool) → r ≡ has_at s at w → then_some r (at + length w) ≡ after_at s at w
 unfolding after_at
 after-is s at w true e = rw (← e)
 after-is s at w false e = rw (← e)
+
+pub after_word : (s : List ℕ) (at : ℕ) (w : List ℕ) → at + length w ≤ length s → after_at s at w ≡ then_some (bytes_eq (take (length w) (drop at s)) w) (at + length w)
+after_word s at w f = sym (after-is s at w _ (word-part s at w _ f refl))
+
+-- a word compared
+pub ruleset words = (after_word, after_short)
 
 pub has-fits : (s : List ℕ) (at : ℕ) (w : List ℕ) → has_at s at w ≡ true → at + length w ≤ length s
 unfolding has_at
@@ -125,10 +137,6 @@ module _ (s : List ℕ) (at : ℕ) where
       let m : k < 8 = omega (arith, part-length s at 8 f) in
       ap hex_of (get_or_default (take 8 (drop at s)) k d 0 l ∙ part-get s at 8 k m) ∙ value-digit h k m))
 
-  pub value-fits : value_at s at ≡ true → at + 8 ≤ length s
-  unfolding value_at
-  value-fits h = leb-true (at + 8) (length s) (both_left (leb (at + 8) (length s)) (all (λ k. hex_of (get_or s (at + k) 0)) 8) h)
-
 -- r is what the digit at the place was found to be
 module _ (s : List ℕ) (at r : ℕ) (e : r ≡ digit_at s at) where
   pub digits-stop : (f v : ℕ) → r ≡ 10 → counted v at ≡ digits_from f s at v
@@ -159,3 +167,6 @@ pub closing_tells :
 unfolding closing_at
 closing_tells s at w =
     elim (true-or-false (closes_at s at w)) [ inl h ↦ inl (rw h, h) | inr h ↦ inr (rw h, h) ]
+
+-- what a test says, and a word that was looked for
+pub ruleset tests = (nat_tests, after_tells)

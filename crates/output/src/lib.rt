@@ -14,6 +14,7 @@ pub struct Number {
 }
 
 // Blocks fetched and blocks written back.
+// Kept: beside tracker's type of that name, whose sums are bytes (what may not change: drift prints what a line tells, up to 65,535).
 #[derive(Clone, Copy, PartialEq, Eq)]
 pub struct Transfers {
     pub fetched: u32,
@@ -50,6 +51,7 @@ fn part(s: &[u8], at: usize, n: usize) -> Option<&[u8]>
 }
 
 // Whether n bytes from i in a and from j in b are there, and are the same.
+#[tactic(auto, using(crate::proofs::Lines::cuts))]
 pub fn alike(a: &[u8], i: usize, b: &[u8], j: usize, n: usize) -> bool
     ensures { result ≡ alike_at a.now i b.now j n }
 {
@@ -60,6 +62,7 @@ pub fn alike(a: &[u8], i: usize, b: &[u8], j: usize, n: usize) -> bool
 }
 
 // The place after the word w, where it stands at a place.
+#[tactic(auto, using(crate::proofs::Lines::words))]
 fn after(s: &[u8], at: usize, w: &[u8]) -> Option<usize>
     ensures { result ≡ after_at s.now at w.now }
 {
@@ -67,7 +70,7 @@ fn after(s: &[u8], at: usize, w: &[u8]) -> Option<usize>
 }
 
 // Whether it stands there and the line ends with it.
-#[tactic(auto, using(std::proofs::lemmas::Bool::Decides::nat_tests, crate::proofs::Lines::after_tells), unfolding(crate::specs::Line::ends_at, laws::specs::Choice::both))]
+#[tactic(auto, using(crate::proofs::Lines::tests), unfolding(crate::specs::Line::ends_at, laws::specs::Choice::both))]
 fn ends(s: &[u8], at: usize, w: &[u8]) -> bool
     ensures { result ≡ ends_at s.now at w.now }
 {
@@ -75,7 +78,7 @@ fn ends(s: &[u8], at: usize, w: &[u8]) -> bool
 }
 
 // The digit at a place.
-#[tactic(auto, using(std::proofs::lemmas::Bool::Decides::nat_tests), unfolding(crate::specs::Line::digit_at, crate::specs::Line::digit_of))]
+#[tactic(auto, using(crate::proofs::Lines::tests), unfolding(crate::specs::Line::digit_at, crate::specs::Line::digit_of))]
 fn digit_at(s: &[u8], at: usize) -> Option<u32>
     ensures { MatchOption result (digit_at s.now at ≡ 10) (λ d. (d ≡ digit_at s.now at) × (d < 10) × (at < length s.now)) }
 {
@@ -103,7 +106,7 @@ fn digits(s: &[u8], at: usize) -> Number
 }
 
 // A number at a place.
-#[tactic(auto, using(std::proofs::lemmas::Bool::Decides::nat_tests), unfolding(crate::specs::Line::number_at, laws::specs::Choice::both))]
+#[tactic(auto, using(crate::proofs::Lines::tests), unfolding(crate::specs::Line::number_at, laws::specs::Choice::both))]
 fn number_at(s: &[u8], at: usize) -> Option<Number>
     ensures { result ≡ number_at s.now at }
 {
@@ -115,21 +118,22 @@ fn number_at(s: &[u8], at: usize) -> Option<Number>
 }
 
 // One of at most 65,535.
-#[tactic(auto, using(std::proofs::lemmas::Bool::Decides::nat_tests), unfolding(crate::specs::Line::small_of))]
+#[tactic(auto, using(crate::proofs::Lines::tests), unfolding(crate::specs::Line::small_of))]
 fn small_at(s: &[u8], at: usize) -> Option<Number>
     ensures { result ≡ small_of (number_at s.now at) }
 {
-    let n = number_at(s, at)?;
-    if n.value < 65536 { Some(n) } else { None }
+    number_at(s, at).filter(|n| n.value < 65536)
 }
 
-#[tactic(auto, using(std::proofs::lemmas::Bool::Decides::nat_tests), unfolding(crate::specs::Line::hex_of, laws::specs::Choice::both, laws::specs::Choice::either))]
+// Whether a byte is a digit of V: 0 to 9, a to f.
+#[tactic(auto, using(crate::proofs::Lines::tests), unfolding(crate::specs::Line::hex_of, laws::specs::Choice::both, laws::specs::Choice::either))]
 fn hex(b: u8) -> bool
     ensures { result ≡ hex_of b }
 {
     matches!(b, b'0'..=b'9' | b'a'..=b'f')
 }
 
+// Whether each byte is one.
 fn all_hex(v: &[u8]) -> bool
     ensures { IsTrue result ↔ AllPass hex_of v.now }
 {
@@ -147,7 +151,7 @@ fn value(s: &[u8], at: usize) -> bool
 }
 
 // The number of at most 65,535 with which the line ends, behind the word w at a place.
-#[tactic(auto, using(std::proofs::lemmas::Bool::Decides::nat_tests, crate::proofs::Lines::after_tells), unfolding(crate::specs::Line::closing_at, crate::specs::Line::closes_at, crate::specs::Line::small_of, crate::specs::Line::last_of, crate::specs::Line::number_is, laws::specs::Choice::both))]
+#[tactic(auto, using(crate::proofs::Lines::tests), unfolding(crate::specs::Line::closing_at, crate::specs::Line::closes_at, crate::specs::Line::small_of, crate::specs::Line::last_of, crate::specs::Line::number_is, laws::specs::Choice::both))]
 fn closing(s: &[u8], at: usize, w: &[u8]) -> Option<u32>
     ensures { result ≡ closing_at s.now at w.now }
 {
@@ -160,7 +164,7 @@ fn closing(s: &[u8], at: usize, w: &[u8]) -> Option<u32>
 }
 
 // Whether `ok`, `wait`, `moved` or `no C` stands there.
-#[tactic(auto, using(crate::proofs::Lines::closing_tells, std::proofs::lemmas::Bool::Decides::nat_tests), unfolding(crate::specs::Line::plain_at, laws::specs::Choice::either))]
+#[tactic(auto, using(crate::proofs::Lines::closing_tells), unfolding(crate::specs::Line::plain_at, laws::specs::Choice::either))]
 fn plain(s: &[u8], at: usize) -> bool
     ensures { result ≡ plain_at s.now at }
 {
@@ -171,7 +175,7 @@ fn plain(s: &[u8], at: usize) -> bool
 }
 
 // The place after `read V turns `, where it stands at a place.
-#[tactic(auto, using(std::proofs::lemmas::Bool::Decides::nat_tests, crate::proofs::Lines::after_tells), unfolding(crate::specs::Line::reads_at, laws::specs::Choice::both))]
+#[tactic(auto, using(crate::proofs::Lines::tests), unfolding(crate::specs::Line::reads_at, laws::specs::Choice::both))]
 fn reads(s: &[u8], at: usize) -> Option<usize>
     ensures { MatchOption result (reads_at s.now at ≡ false) (λ k. (reads_at s.now at ≡ true) × (k ≡ at + 20)) }
 {
@@ -183,7 +187,7 @@ fn reads(s: &[u8], at: usize) -> Option<usize>
 }
 
 // Where the count of an ending that begins at a place stands.
-#[tactic(auto, using(std::proofs::lemmas::Bool::Decides::nat_tests, crate::proofs::Lines::after_tells), unfolding(crate::specs::Line::count_at, laws::specs::Choice::either))]
+#[tactic(auto, using(crate::proofs::Lines::tests), unfolding(crate::specs::Line::count_at, laws::specs::Choice::either))]
 fn count_at(s: &[u8], at: usize) -> Option<usize>
     ensures { MatchOption result (count_at s.now at ≡ 0) (λ k. (k ≡ count_at s.now at) × (0 < k)) }
 {
@@ -193,7 +197,7 @@ fn count_at(s: &[u8], at: usize) -> Option<usize>
 }
 
 // The transfers ` in I out O`, where they stand at a place and the line ends with them.
-#[tactic(auto, using(std::proofs::lemmas::Bool::Decides::nat_tests, crate::proofs::Lines::after_tells), unfolding(crate::specs::Line::transfers_at, crate::specs::Line::out_of, crate::specs::Line::closing_at, crate::specs::Line::small_of, laws::specs::Choice::both))]
+#[tactic(auto, using(crate::proofs::Lines::tests), unfolding(crate::specs::Line::transfers_at, crate::specs::Line::out_of, crate::specs::Line::closing_at, crate::specs::Line::small_of, laws::specs::Choice::both))]
 fn transfers_at(s: &[u8], at: usize) -> Option<Transfers>
     ensures { result ≡ transfers_at s.now at }
 {
@@ -206,7 +210,7 @@ fn transfers_at(s: &[u8], at: usize) -> Option<Transfers>
 }
 
 // The ending whose count stands at a place.
-#[tactic(auto, using(std::proofs::lemmas::Bool::Decides::nat_tests), unfolding(crate::specs::Line::ending_of, crate::specs::Line::ending_with, crate::specs::Line::small_of, crate::specs::Line::rest_at))]
+#[tactic(auto, using(crate::proofs::Lines::tests), unfolding(crate::specs::Line::ending_of, crate::specs::Line::ending_with, crate::specs::Line::small_of, crate::specs::Line::rest_at))]
 fn ending_of(s: &[u8], at: usize) -> Option<Line>
     ensures { result ≡ ending_of s.now at (number_at s.now at) }
 {
@@ -221,7 +225,7 @@ fn ending_of(s: &[u8], at: usize) -> Option<Line>
 }
 
 // What stands after the line number and its space.
-#[tactic(auto, using(std::proofs::lemmas::Bool::Decides::nat_tests), unfolding(crate::specs::Line::answer_at))]
+#[tactic(auto, using(crate::proofs::Lines::tests), unfolding(crate::specs::Line::answer_at))]
 fn answer(s: &[u8], at: usize) -> Option<Line>
     ensures { result ≡ answer_at s.now at }
 {
@@ -232,7 +236,7 @@ fn answer(s: &[u8], at: usize) -> Option<Line>
 }
 
 // What a line of replay is; none where it is no line of replay.
-#[tactic(auto, using(std::proofs::lemmas::Bool::Decides::nat_tests, crate::proofs::Lines::after_tells), unfolding(crate::specs::Line::line_of, crate::specs::Line::after_number))]
+#[tactic(auto, using(crate::proofs::Lines::tests), unfolding(crate::specs::Line::line_of, crate::specs::Line::after_number))]
 pub fn read(s: &[u8]) -> Option<Line>
     ensures { result ≡ line_of s.now }
 {
