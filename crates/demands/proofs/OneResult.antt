@@ -2,10 +2,8 @@
 use mathlib.Core.Path.{◌≡◌, sym, ◌∙◌}
 use lib.ListN.{length}
 use Rattle.laws.specs.Refusal.{refused_with, given}
-use Rattle.laws.proofs.Told.{given-one}
+use Rattle.laws.proofs.Told.{given-one, refused-one}
 use Rattle.memory.specs.PlainReading.{plain_reading}
-use Rattle.laws.specs.Refusal.{refused_with}
-use Rattle.laws.proofs.Told.{refused-one}
 use Rattle.reader.proofs.One.{read-at-one}
 use Rattle.image.specs.Test.{image_test}
 use Rattle.image.specs.Calls.{writing_refusal, writing_answer, written, restoring_refusal, restored}
