@@ -45,9 +45,6 @@ returns-then-output-long c = let a = c.args in
     let r = refused a.n a.memory.now a.output.now 8 e in
     (r.0, sym e, r.1)
 
-pub put_image-requires : goal.put_image-requires
-put_image-requires c = omega (arith, c.length_for-long.ensures)
-
 pub invariant_of-source : goal.invariant_of-source
 invariant_of-source c =
     record {

