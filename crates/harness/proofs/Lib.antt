@@ -1,3 +1,4 @@
+pub mod Named
 pub mod Ways
 pub mod Unchanged
 pub mod Shown
