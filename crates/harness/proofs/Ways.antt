@@ -50,23 +50,29 @@ gives-is o w e p q = rw (p, left-words w (coded o.state) e q)
 pub decoded-is : {u : State} (w : List ℕ) → codes w ≡ true → u ≡ pick (codes w) (decoded w) zero_state → u ≡ decoded w
 decoded-is w c s = s ∙ rw c
 
--- fresh and open
+-- fresh and open: a device of another length, then words of another length
+module _ (device w : List ℕ) where
+  pub device-2 : (length device ≡ device_words → ⊥) → 2 ≡ refusal (begin_tests device w)
+  device-2 h = sym (refusal-first [] _ 2 _ tt (ne_eqb (length device) device_words h))
+
+  pub device-state : length device ≡ device_words → (length w ≡ state_words → ⊥) → 2 ≡ refusal (begin_tests device w)
+  device-state d h = sym (refusal-first ((eqb (length device) device_words, 2) ∷ []) _ 2 [] (eq-eqb (length device) device_words d, tt) (ne_eqb (length w) state_words h))
+
+  pub device-0 : length device ≡ device_words → length w ≡ state_words → 0 ≡ refusal (begin_tests device w)
+  device-0 d e = sym (refusal-0 (begin_tests device w) (eq-eqb (length device) device_words d, (eq-eqb (length w) state_words e, tt)))
+
 module _ (f : ℕ → ℕ → ℕ → Out) (device w bytes memory : List ℕ) where
-  pub begins-device : (length device ≡ device_words → ⊥) → begins f device w bytes memory ≡ refused 2 w bytes memory
+  pub begins-refused : (r : Refusal) → number r ≡ refusal (begin_tests device w) → done (refused_by (number r)) w bytes memory ≡ begins f device w bytes memory
   unfolding begins
-  begins-device h =
-      let e : refusal (begin_tests device w) ≡ 2 = refusal-first [] _ 2 _ tt (ne_eqb (length device) device_words h) in
-      rw e (unless-no _ _ (omega arith))
+  begins-refused r e = rw (← e) (sym (unless-no _ _ (number-pos r)))
 
-  pub begins-state : length device ≡ device_words → (length w ≡ state_words → ⊥) → begins f device w bytes memory ≡ refused 2 w bytes memory
+  begins-is : 0 ≡ refusal (begin_tests device w) → begins f device w bytes memory ≡ gives (f (get_or device 0 0) (get_or device 1 0) (get_or device 2 0))
   unfolding begins
-  begins-state d h =
-      let e : refusal (begin_tests device w) ≡ 2 = refusal-first ((eqb (length device) device_words, 2) ∷ []) _ 2 [] (eq-eqb (length device) device_words d, tt) (ne_eqb (length w) state_words h) in
-      rw e (unless-no _ _ (omega arith))
+  begins-is z = unless-0 _ _ (sym z)
 
-  pub begins-is : length device ≡ device_words → length w ≡ state_words → begins f device w bytes memory ≡ gives (f (get_or device 0 0) (get_or device 1 0) (get_or device 2 0))
-  unfolding begins
-  begins-is d e = unless-0 _ _ (refusal-0 (begin_tests device w) (eq-eqb (length device) device_words d, (eq-eqb (length w) state_words e, tt)))
+  -- a device that is not refused has a state's words beside it
+  begins-long : 0 ≡ refusal (begin_tests device w) → length w ≡ state_words
+  begins-long z = eqb-true _ _ (refusal-hold (begin_tests device w) refl (sym z)).1.0
 
 -- words and their refusals, 2 and 4
 module _ (w : List ℕ) where
@@ -217,10 +223,10 @@ module _ (w : List ℕ) where
 
 -- what each kind of call leaves, from the promises of the functions that it calls
 module _ (o : Out) {k : ℕ} {r : List ℕ} where
-  pub begins-does : (f : ℕ → ℕ → ℕ → Out) (device w bytes memory : List ℕ) → length device ≡ device_words → length w ≡ state_words
+  pub begins-does : (f : ℕ → ℕ → ℕ → Out) (device w bytes memory : List ℕ) → 0 ≡ refusal (begin_tests device w)
       → o ≡ f (get_or device 0 0) (get_or device 1 0) (get_or device 2 0) → k ≡ number_given o.said o.transfers → r ≡ pick (eqb (length w) state_words) (coded o.state) w
       → done k r o.bytes o.memory ≡ begins f device w bytes memory
-  begins-does f device w bytes memory d e q p l = gives-is o w e p l ∙ ap gives q ∙ sym (begins-is f device w bytes memory d e)
+  begins-does f device w bytes memory z q p l = gives-is o w (begins-long f device w bytes memory z) p l ∙ ap gives q ∙ sym (begins-is f device w bytes memory z)
 
   module _ (u : State) (w : List ℕ) (z : 0 ≡ refusal (word_tests w)) (s : u ≡ decoded w) where
     pub called-does : (f : State → Out) (bytes memory : List ℕ) → o ≡ f u → k ≡ number_given o.said o.transfers → r ≡ pick (eqb (length w) state_words) (coded o.state) w

@@ -2,16 +2,17 @@
 // No public function has a `requires`: words, bytes and numbers can be anything. Refused, nothing changes but the words of a refused fresh or open.
 #![tactic(auto)]
 
-ghost use Rattle.std.specs.Prelude.{◌≡◌, ◌-◌, eqb, ltb, length, IfOk};
+ghost use Rattle.std.specs.Prelude.{◌≡◌, ◌-◌, eqb, ltb, length, IfOk, slice_index};
 ghost use Rattle.laws.specs.Choice.{pick};
 ghost use Rattle.laws.specs.Refusal.{number, refused_with, given, given_done, refusal};
 ghost use Rattle.laws.specs.declared.Refusal.{Refusal};
 ghost use Rattle.geometry.specs.TagMemory.{values};
 ghost use Rattle.tracker.specs.Answer.{says};
+ghost use Rattle.rules.specs.Calls.{show_no};
 ghost use Rattle.cache.specs.Seen.{seen};
 ghost use Rattle.coding.specs.Words.{state_words, coded, decoded};
 ghost use Rattle.coding.specs.Answer.{number_of};
-ghost use Rattle.harness.specs.Calls.{done, word_tests, tag_fresh, tag_open, access_of, tag_issue, tag_drain, tag_step, shown_at, tag_show, tag_whole};
+ghost use Rattle.harness.specs.Calls.{done, begin_tests, word_tests, tag_fresh, tag_open, access_of, tag_issue, tag_drain, tag_step, shown_at, tag_show, tag_whole};
 ghost use Rattle.harness.specs.Told.{Told, given_whether};
 
 use cache::{Out, State};
@@ -25,6 +26,17 @@ const MOST_GROUP: u64 = u32::MAX as u64;
 // A leaf that is shown in memory has its place there plus this and one.
 const IN_MEMORY: u64 = 1 << 40;
 
+// n, T and L of a device, where the words of the state are as many as a state has: refusal 2.
+fn device_in(device: &[u64], state: &[u64]) -> Result<(u64, u64, u64), Refusal>
+    ensures refusals { refused_with result ≡ refusal (begin_tests device.now state.now) }
+    ensures device { IfOk result (λ d. (d.0 ≡ slice_index device.now 0) × (d.1 ≡ slice_index device.now 1) × (d.2 ≡ slice_index device.now 2)) }
+{
+    match device {
+        &[n, t, l] if state.len() == coding::STATE_WORDS => Ok((n, t, l)),
+        _ => Err(Refusal::OtherLength),
+    }
+}
+
 // The state that lent words code: refusals 2, 4.
 fn state_in(words: &[u64]) -> Result<State, Refusal>
     ensures refusals { refused_with result ≡ refusal (word_tests words.now) }
@@ -37,6 +49,7 @@ fn state_in(words: &[u64]) -> Result<State, Refusal>
 }
 
 // The refusal that has a number.
+// Kept: an answer and a test of showing carry the number (tracker `Answer::No`, cache `show_refusal`).
 fn refusal_of(c: u8) -> Refusal
     requires { (r : Refusal) × (number r ≡ c) }
     ensures { number result ≡ c }
@@ -88,12 +101,7 @@ pub fn fresh(
 ) -> Result<(), Refusal>
     ensures { done (given_done result) state.new bytes.now memory.new ≡ tag_fresh device.now state.old bytes.now memory.old }
 {
-    let &[n, t, l] = device else {
-        return Err(Refusal::OtherLength);
-    };
-    if state.len() != coding::STATE_WORDS {
-        return Err(Refusal::OtherLength);
-    }
+    let (n, t, l) = device_in(device, state)?;
     let r = State::fresh(n, t, l, bytes, memory);
     leave(r, state)
 }
@@ -102,12 +110,7 @@ pub fn fresh(
 pub fn open(device: &[u64], state: &mut [u64], bytes: &[u8], memory: &[u8]) -> Result<(), Refusal>
     ensures { done (given_done result) state.new bytes.now memory.now ≡ tag_open device.now state.old bytes.now memory.now }
 {
-    let &[n, t, l] = device else {
-        return Err(Refusal::OtherLength);
-    };
-    if state.len() != coding::STATE_WORDS {
-        return Err(Refusal::OtherLength);
-    }
+    let (n, t, l) = device_in(device, state)?;
     let r = State::open(n, t, l, bytes, memory);
     leave(r, state)
 }
@@ -171,6 +174,22 @@ pub fn drain(state: &mut [u64], bytes: &[u8], memory: &mut [u8]) -> Result<u64, 
     Ok(u64::from(r.transfers.back))
 }
 
+// Where a state shows leaf k, which it is not refused to show.
+fn place_of<'a>(s: State, bytes: &'a [u8], memory: &'a [u8], k: u64) -> u64
+    requires { show_no (seen s) bytes.now memory.now k ≡ 0 }
+    ensures { result ≡ shown_at (seen s) bytes.now memory.now k }
+{
+    let l = s.shape.l;
+    let i = line::line_of(&s.lines, l, k as u32);
+    if i < l {
+        return 1 + (Geometry::BLOCK_LEN * i) as u64;
+    }
+    if s.show(bytes, memory, k).is_empty() {
+        return 0;
+    }
+    IN_MEMORY + (1 + Geometry::BLOCK_LEN as u64 * k)
+}
+
 // Where a state shows leaf k.
 fn shown_at<'a>(s: State, bytes: &'a [u8], memory: &'a [u8], k: u64) -> Result<u64, Refusal>
     ensures { given result ≡ shown_at (seen s) bytes.now memory.now k }
@@ -179,15 +198,7 @@ fn shown_at<'a>(s: State, bytes: &'a [u8], memory: &'a [u8], k: u64) -> Result<u
     if 0 < c {
         return Err(refusal_of(c));
     }
-    let l = s.shape.l;
-    let i = line::line_of(&s.lines, l, k as u32);
-    if i < l {
-        return Ok(1 + (Geometry::BLOCK_LEN * i) as u64);
-    }
-    if s.show(bytes, memory, k).is_empty() {
-        return Ok(0);
-    }
-    Ok(IN_MEMORY + (1 + Geometry::BLOCK_LEN as u64 * k))
+    Ok(place_of(s, bytes, memory, k))
 }
 
 // Where leaf k is shown: 0 for an empty part, else 1 plus its place in the line bytes, or IN_MEMORY plus 1 plus its place in memory. Refusals 2, 4, then those of showing.

@@ -1,39 +1,27 @@
 -- `fresh` meets its contract: two lengths, then the rules' own call.
-use mathlib.Core.Path.{◌≡◌, sym, ap, ◌∙◌}
-use lib.ListN.{length, get_or}
-use native.Mathlib.Omega.{arith}
+use mathlib.Core.Path.{ap, ◌∙◌}
+use Rattle.std.proofs.lemmas.Result.{err_from_is_err_and}
 use Rattle.rules.specs.Calls.{Out, fresh}
-use Rattle.harness.proofs.Named.{fresh-back, fresh-told}
-use Rattle.harness.proofs.Ways.{begins-device, begins-state, begins-does, given-none}
+use Rattle.harness.proofs.Named.{fresh-told, fresh-back}
+use Rattle.harness.proofs.Ways.{begins-refused, begins-does, given-none}
 use Rattle.harness.proofs.fresh.Goals as goal
 
-pub returns-in_default : goal.returns-in_default
-returns-in_default c =
+pub returns-in_err-n : goal.returns-in_err-n
+returns-in_err-n c =
     let a = c.args in
-    sym (begins-device (λ n t l. fresh n t l a.bytes.now a.memory.now) a.device.now a.state.now a.bytes.now a.memory.now (λ e. omega (arith, c.in_default.len_below)))
-
-pub returns-in_default-2 : goal.returns-in_default-2
-returns-in_default-2 c =
-    let a = c.args in
-    sym (begins-device (λ n t l. fresh n t l a.bytes.now a.memory.now) a.device.now a.state.now a.bytes.now a.memory.now (λ e. omega (arith, c.in_default.len_at_least)))
-
-pub returns-then-state-ne-STATE_WORDS : goal.returns-then-state-ne-STATE_WORDS
-returns-then-state-ne-STATE_WORDS c =
-    let a = c.args in
-    let three : length a.device.now ≡ 3 = omega (arith, c.in-len3.len_at_least, c.in-len3.len_below) in
-    sym (begins-state (λ n t l. fresh n t l a.bytes.now a.memory.now) a.device.now a.state.now a.bytes.now a.memory.now three c.if-state-ne-STATE_WORDS.true)
+    let p = err_from_is_err_and c.from_residual.result c.from_residual.ensures.1 in rw (p.1, p.2)
+    (begins-refused (λ n t l. fresh n t l a.bytes.now a.memory.now) a.device.now a.state.now a.bytes.now a.memory.now c.in_err-n.field-0.0 c.in_err-n.ensures.refusals)
 
 pub leave-requires : goal.leave-requires
 leave-requires c =
     let a = c.args in
-    let d = a.device.now in
-    rw (ap (λ (o : Out). o.said) c.fresh-r.ensures) (fresh-told (get_or d 0 0) (get_or d 1 0) (get_or d 2 0) a.bytes.now a.memory.now)
+    rw (ap (λ (o : Out). o.said) c.fresh-r.ensures) (fresh-told c.in_ok-n.n c.in_ok-n.t c.in_ok-n.l a.bytes.now a.memory.now)
 
 pub returns : goal.returns
 returns c =
     let a = c.args in
-    let d = a.device.now in
-    let three : length d ≡ 3 = omega (arith, c.in-len3.len_at_least, c.in-len3.len_below) in
-    let none = ap (λ (o : Out). o.transfers.back) c.fresh-r.ensures ∙ fresh-back (get_or d 0 0) (get_or d 1 0) (get_or d 2 0) a.bytes.now a.memory.now in
-    begins-does _ (λ n t l. fresh n t l a.bytes.now a.memory.now) d a.state.now a.bytes.now a.memory.now three c.if-state-ne-STATE_WORDS.false
-    c.fresh-r.ensures (c.leave.ensures.0 ∙ given-none _ c.fresh-r.result.transfers none) c.leave.ensures.1
+    let d = c.in_ok-n.ensures.device in
+    let q = rw (d.0, d.1, d.2) at c.fresh-r.ensures in
+    let none = ap (λ (o : Out). o.transfers.back) c.fresh-r.ensures ∙ fresh-back c.in_ok-n.n c.in_ok-n.t c.in_ok-n.l a.bytes.now a.memory.now in
+    begins-does _ (λ n t l. fresh n t l a.bytes.now a.memory.now) a.device.now a.state.now a.bytes.now a.memory.now c.in_ok-n.ensures.refusals
+    q (c.leave.ensures.0 ∙ given-none _ c.fresh-r.result.transfers none) c.leave.ensures.1
