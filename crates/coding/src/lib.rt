@@ -304,6 +304,7 @@ fn put_words(words: &mut [u64], said: u64, v: u32, k: u16, t: Transfers)
 }
 
 // The words become those of what was said, where there are as many as an answer has; else they stay as they came.
+// Kept: the numbers of what was said are those of C (TAG_WAIT to TAG_SAME of `include/tag_model.h`).
 pub fn put_said(answer: Answer, t: Transfers, words: &mut [u64])
     ensures { words.new ≡ pick (eqb (length words.old) answer_words) (said_coded (says answer) t) words.old }
 {

@@ -1,41 +1,24 @@
--- What each call on a state says is no refusal, or one that has a name; and fresh, open and issue write nothing back.
+-- What each call on a state says is no refusal, or one that has a name.
 use mathlib.Core.Path.{◌≡◌, refl}
-use mathlib.Core.List.{List, [], ◌∷◌, ◌++◌}
+use mathlib.Core.List.{List, [], ◌∷◌}
 use mathlib.Core.Bool.{Bool, true, false}
 use mathlib.Core.Logic.{⊎_elim}
 use Prim.Native.Nat.{ℕ, ◌<◌}
 use native.Mathlib.Omega.{arith}
 use Rattle.laws.specs.Choice.{pick}
 use Rattle.laws.specs.declared.Refusal.{Refusal}
-use Rattle.laws.specs.declared.Refusal.TheVariants.{OutsideLimits, OtherLength, NotTrue, BrokenState, NoTracker, NoGroup, BusyTracker, IdleTracker, NoRoom, WrongCheck, OtherRule, OtherForm, SharedGroup, OtherRun}
+use Rattle.laws.specs.declared.Refusal.TheVariants.{OutsideLimits, OtherLength, NotTrue, BrokenState, NoTracker, NoGroup, BusyTracker, IdleTracker, SharedGroup}
 use Rattle.laws.specs.Refusal.{Tests, number, refusal}
-use Rattle.laws.proofs.Refusals.{refusal-0, refusal-hold, refused-or-not, unless-by}
+use Rattle.laws.proofs.Refusals.{refused-or-not, unless-by}
 use Rattle.tracker.specs.declared.Access.{Access}
 use Rattle.tracker.specs.Answer.{Said, ok, wait, moved, read, done, same, no}
 use Rattle.rules.specs.State.{State}
 use Rattle.rules.specs.Calls as calls
 use Rattle.rules.specs.Calls.{Out, issue_no, issue, step_no, step, drain_no, drain, show_no}
 use Rattle.rules.proofs.Keeps.{is_no}
-use Rattle.rules.proofs.Calls.{step-free, step-not-refused}
 use Rattle.cache.proofs.Refusals.{step-refused}
 use Rattle.harness.specs.Told.{Told}
-
--- no refusal has the number 0
-pub number-pos : (r : Refusal) → 0 < number r
-number-pos OutsideLimits = omega arith
-number-pos OtherLength = omega arith
-number-pos NotTrue = omega arith
-number-pos BrokenState = omega arith
-number-pos NoTracker = omega arith
-number-pos NoGroup = omega arith
-number-pos BusyTracker = omega arith
-number-pos IdleTracker = omega arith
-number-pos NoRoom = omega arith
-number-pos WrongCheck = omega arith
-number-pos OtherRule = omega arith
-number-pos OtherForm = omega arith
-number-pos SharedGroup = omega arith
-number-pos OtherRun = omega arith
+use Rattle.harness.proofs.Back.{step-accepted}
 
 -- a number that a refusal has
 abbrev pub Named : ℕ → Type 0
@@ -64,14 +47,6 @@ module _ (n t l : ℕ) (bytes memory : List ℕ) where
   unfolding calls.opened
   open-told = unless-by _ _ (λ (o : Out). Told o.said) (λ e. tt) (λ p. refusal-named _ ((OutsideLimits, refl), ((OtherLength, refl), ((NotTrue, refl), tt))) p)
 
-  pub fresh-back : (calls.fresh n t l bytes memory).transfers.back ≡ 0
-  unfolding calls.fresh
-  fresh-back = unless-by _ _ (λ (o : Out). o.transfers.back ≡ 0) (λ e. refl) (λ p. refl)
-
-  pub open-back : (calls.opened n t l bytes memory).transfers.back ≡ 0
-  unfolding calls.opened
-  open-back = unless-by _ _ (λ (o : Out). o.transfers.back ≡ 0) (λ e. refl) (λ p. refl)
-
 module _ (s : State) (bytes memory : List ℕ) where
   issue-named : (x : ℕ) (a : Access) → 0 < issue_no s bytes memory x a → Named (issue_no s bytes memory x a)
   unfolding issue_no
@@ -80,10 +55,6 @@ module _ (s : State) (bytes memory : List ℕ) where
   pub issue-told : (x : ℕ) (a : Access) → Told (issue s bytes memory x a).said
   unfolding issue
   issue-told x a = unless-by _ _ (λ (o : Out). Told o.said) (λ e. tt) (λ p. issue-named x a p)
-
-  pub issue-back : (x : ℕ) (a : Access) → (issue s bytes memory x a).transfers.back ≡ 0
-  unfolding issue
-  issue-back x a = unless-by _ _ (λ (o : Out). o.transfers.back ≡ 0) (λ e. refl) (λ p. refl)
 
   drain-named : 0 < drain_no s bytes memory → Named (drain_no s bytes memory)
   unfolding drain_no
@@ -101,17 +72,9 @@ module _ (s : State) (bytes memory : List ℕ) where
   unfolding step_no
   step-named x p = refusal-named _ ((BrokenState, refl), ((OtherLength, refl), ((NoTracker, refl), ((IdleTracker, refl), tt)))) p
 
-  -- a step that is not refused says no refusal
-  step-accepted : (x : ℕ) → step_no s bytes memory x ≡ 0 → is_no (step s bytes memory x).said ≡ false
-  unfolding step_no
-  step-accepted x e =
-      let q = refusal-hold (calls.state_tests s bytes memory ++ calls.step_tests s.shape x s.trackers) refl e in
-      let r = step-free s bytes memory q.0 q.1.0 x (refusal-0 (calls.step_tests s.shape x s.trackers) q.1.1) in
-      step-not-refused s bytes memory q.0 q.1.0 x r.0 r.1
-
   pub step-told : (x : ℕ) → Told (step s bytes memory x).said
   step-told x =
-      ⊎_elim (λ e. not-no (step s bytes memory x).said (step-accepted x e))
+      ⊎_elim (λ e. not-no (step s bytes memory x).said (step-accepted s bytes memory x e))
       (λ p. rw (step-refused s bytes memory x (step_no s bytes memory x) refl p) (step-named x p)) (refused-or-not (step_no s bytes memory x))
     where
       not-no : (d : Said) → is_no d ≡ false → Told d

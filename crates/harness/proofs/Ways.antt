@@ -34,7 +34,7 @@ use Rattle.cache.proofs.Refusals.{issue-unfit, issue-fit, issue-refused, fit-who
 use Rattle.coding.specs.Words.{state_words, coded, decoded, codes}
 use Rattle.coding.specs.Seen.{is_coded, coded_state}
 use Rattle.coding.specs.Answer.{refused_by, number_of, answer_words, answer_coded}
-use Rattle.harness.proofs.Named.{number-pos}
+use Rattle.harness.proofs.Back.{number-pos}
 use Rattle.harness.specs.Calls.{Done, number_given, done, refused, gives, step_gives, device_words, begin_tests, begins, word_tests, called, access_of, step_tests, tag_step, shown_at, tag_show, tag_whole}
 
 -- the words that a call leaves where there are as many as a state has

@@ -12,8 +12,8 @@ ghost use Rattle.rules.specs.Calls.{show_no};
 ghost use Rattle.cache.specs.Seen.{seen};
 ghost use Rattle.coding.specs.Words.{state_words, coded, decoded};
 ghost use Rattle.coding.specs.Answer.{number_of};
-ghost use Rattle.harness.specs.Calls.{done, begin_tests, word_tests, tag_fresh, tag_open, access_of, tag_issue, tag_drain, tag_step, shown_at, tag_show, tag_whole};
-ghost use Rattle.harness.specs.Told.{Told, given_whether};
+ghost use Rattle.harness.specs.Calls.{done, begin_tests, word_tests, tag_fresh, tag_open, access_of, tag_issue, tag_drain, tag_step, shown_at, tag_show, tag_whole, given_whether};
+ghost use Rattle.harness.specs.Told.{Told};
 
 use cache::{Out, State};
 use geometry::Geometry;
@@ -115,6 +115,7 @@ pub fn open(device: &[u64], state: &mut [u64], bytes: &[u8], memory: &[u8]) -> R
     leave(r, state)
 }
 
+// Kept: `write`, `bottom` and `g` are numbers of 64 bits, as C hands them over (`tag_issue`); state, line bytes and memory are lent apart, as C lends them.
 // The access that the numbers say. A group too large for it becomes the largest, which no memory has either.
 pub fn access_of(write: u64, bottom: u64, g: u64, v: u32) -> Access
     ensures { result ≡ access_of write bottom (pick (ltb g values) g (values - 1)) v }

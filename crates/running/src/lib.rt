@@ -25,6 +25,7 @@ use turn::Asked;
 pub const CALL_WORDS: usize = 6;
 
 // What a call is.
+// Kept: the numbers are those of C (TAG_ISSUE, TAG_STEP, TAG_DRAIN of `include/tag_model.h`).
 const ISSUE: u64 = 1;
 
 const STEP: u64 = 2;

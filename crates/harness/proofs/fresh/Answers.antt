@@ -2,7 +2,8 @@
 use mathlib.Core.Path.{ap, ◌∙◌}
 use Rattle.std.proofs.lemmas.Result.{err_from_is_err_and}
 use Rattle.rules.specs.Calls.{Out, fresh}
-use Rattle.harness.proofs.Named.{fresh-told, fresh-back}
+use Rattle.harness.proofs.Back.{fresh-back}
+use Rattle.harness.proofs.Named.{fresh-told}
 use Rattle.harness.proofs.Ways.{begins-refused, begins-does, given-none}
 use Rattle.harness.proofs.fresh.Goals as goal
 

@@ -5,7 +5,8 @@ use Rattle.tracker.specs.declared.Access.{Access}
 use Rattle.rules.specs.Calls.{Out, issue}
 use Rattle.cache.specs.Seen.{seen}
 use Rattle.harness.specs.Calls.{access_of}
-use Rattle.harness.proofs.Named.{issue-told, issue-back}
+use Rattle.harness.proofs.Back.{issue-back}
+use Rattle.harness.proofs.Named.{issue-told}
 use Rattle.harness.proofs.Ways.{called-refused, called-does, issue-wide, given-none}
 use Rattle.harness.proofs.issue.Goals as goal
 

@@ -2,7 +2,8 @@
 use mathlib.Core.Path.{ap, ◌∙◌}
 use Rattle.std.proofs.lemmas.Result.{err_from_is_err_and}
 use Rattle.rules.specs.Calls.{Out, opened}
-use Rattle.harness.proofs.Named.{open-told, open-back}
+use Rattle.harness.proofs.Back.{open-back}
+use Rattle.harness.proofs.Named.{open-told}
 use Rattle.harness.proofs.Ways.{begins-refused, begins-does, given-none}
 use Rattle.harness.proofs.open.Goals as goal
 
