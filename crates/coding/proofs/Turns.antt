@@ -1,67 +1,53 @@
 -- What each turn of a loop over the words does, and what a state's words are below.
 use mathlib.Core.Path.{◌≡◌, refl, ap, sym, ◌∙◌}
 use mathlib.Core.List.{List, [], ◌∷◌, ◌++◌, append-nil, append_assoc}
-use mathlib.Core.Bool.{Bool, true, false}
-use Prim.Native.Nat.{ℕ, zero, suc, ◌+◌, ◌*◌, ◌/◌, ◌%◌, ◌≤◌, ◌<◌}
+use mathlib.Core.Bool.{Bool, true, false, ◌&&◌}
+use Prim.Native.Nat.{ℕ, zero, suc, ◌+◌, ◌*◌, ◌≤◌, ◌<◌}
 use native.Mathlib.Numerals.{add-one}
 use native.Mathlib.Omega.{arith}
-use borrow.Author.Tests.{lt-ltb, le-ltb, ltb-true, eqb-true, eq-eqb, ne_eqb}
-use lib.Dec.{eqb}
+use borrow.Author.Tests.{ltb-true, eqb-true}
 use lib.ListN.{length, take, drop, get_or, set, length-append, drop_of_length-le}
 use lib.Seq.{set_at, drop-cons, append_snoc, length-take-le, take_all}
-use Rattle.laws.specs.Choice.{pick, both}
+use Rattle.laws.specs.Choice.{both}
 use Rattle.laws.specs.Bytes.{part, splice}
-use Rattle.laws.proofs.Choice.{both_left, both_right, both-false-left}
-use Rattle.laws.proofs.Scan.{all-at}
+use Rattle.laws.proofs.Choice.{both_left, both_right}
+use Rattle.laws.specs.Scan.{all}
+use Rattle.laws.proofs.Scan.{all-at, all-zero}
 use Rattle.laws.proofs.Splice.{length-part'}
-use Rattle.laws.proofs.Parts.{part-add}
+use Rattle.laws.proofs.Parts.{part-add, part_none}
+use Rattle.std.specs.List.{list_all}
+use Rattle.std.proofs.lemmas.List.Folds.{list_all-append}
 use Rattle.laws.proofs.Writes.{splice-then, splice-set}
-use Rattle.tracker.specs.declared.Phase.TheVariants.{Idle, Probe, Top, Under, Set, Clear}
 use Rattle.tracker.specs.declared.Tracker.{Tracker}
 use Rattle.tracker.specs.Tracker.{idle}
 use Rattle.rules.specs.State.{State}
-use Rattle.tracker.specs.declared.Answer.{Answer}
-use Rattle.tracker.specs.declared.Transfers.{Transfers}
-use Rattle.tracker.specs.Answer.{says}
-use Rattle.coding.specs.Answer.{number_of, said_coded, answer_coded}
-use Rattle.coding.specs.Words.{tracker_place, state_words, shape_coded, coded, most_level, phase_number, phase_of, codes_phase, tracker_coded, trackers_coded, tracker_in, trackers_to, codes_tracker, codes_line, codes}
+use Rattle.coding.specs.Words.{tracker_place, state_words, shape_coded, coded, codes_phase, tracker_coded, trackers_coded, tracker_in, trackers_to, codes_tracker, codes_line, codes}
 use Rattle.laws.proofs.Stores.{part-1, splice_all}
 use Rattle.coding.proofs.Trackers.{length-trackers, trackers-more}
 
--- the phases by their tests
-module _ (k : ℕ) where
-  pub phase-1 : k % 8 ≡ 1 → Probe (k / 8) ≡ phase_of k
-  unfolding phase_of
-  phase-1 e = rw e
+-- a test of each word of a part
+and-both : (a b : Bool) → (a && b) ≡ both a b
+unfolding both
+and-both true b = refl
+and-both false b = refl
 
-  pub phase-2 : k % 8 ≡ 2 → Top ≡ phase_of k
-  unfolding phase_of
-  phase-2 e = rw e
+all-one : (p : ℕ → Bool) (x : ℕ) → list_all p (x ∷ []) ≡ p x
+all-one p x = by-test (p x)
+  where
+    by-test : (b : Bool) → (b && true) ≡ b
+    by-test true = refl
+    by-test false = refl
 
-  pub phase-3 : k % 8 ≡ 3 → Under (k / 8) ≡ phase_of k
-  unfolding phase_of
-  phase-3 e = rw e
+all-next : (p : ℕ → Bool) (n : ℕ) → all p (suc n) ≡ both (all p n) (p n)
+unfolding all
+all-next p n = refl
 
-  pub phase-4 : k % 8 ≡ 4 → Set (k / 8) ≡ phase_of k
-  unfolding phase_of
-  phase-4 e = rw e
-
-  pub phase-5 : k % 8 ≡ 5 → Clear (k / 8) ≡ phase_of k
-  unfolding phase_of
-  phase-5 e = rw e
-
-  pub phase-0 : (k % 8 ≡ 1 → ⊥) → (k % 8 ≡ 2 → ⊥) → (k % 8 ≡ 3 → ⊥) → (k % 8 ≡ 4 → ⊥) → (k % 8 ≡ 5 → ⊥) → Idle ≡ phase_of k
-  unfolding phase_of
-  phase-0 a b c d e = rw (ne_eqb _ _ a, ne_eqb _ _ b, ne_eqb _ _ c, ne_eqb _ _ d, ne_eqb _ _ e)
-
-  -- a word that is too large, and one that is not
-  pub codes-large : 8 * suc most_level ≤ k → codes_phase k ≡ false
-  unfolding codes_phase
-  codes-large h = both-false-left _ _ (le-ltb _ _ h)
-
-  pub codes-small : k < 8 * suc most_level → codes_phase k ≡ eqb (phase_number (phase_of k)) k
-  unfolding codes_phase both
-  codes-small h = rw (lt-ltb _ _ h)
+pub all-part : (p : ℕ → Bool) (w : List ℕ) (at n : ℕ) → at + n ≤ length w → list_all p (part w at n) ≡ all (λ i. p (get_or w (at + i) 0)) n
+all-part p w at zero h = rw (part_none w at) (sym (all-zero (λ i. p (get_or w (at + i) 0))))
+all-part p w at (suc n) h =
+    let e : suc n ≡ n + 1 = omega arith in
+    rw (all-next (λ i. p (get_or w (at + i) 0)) n, ← all-part p w at n (omega arith))
+    (rw (e, part-add w at n 1, part-1 w (at + n) (omega arith)) (list_all-append p (part w at n) (get_or w (at + n) 0 ∷ []) ∙ and-both (list_all p (part w at n)) (list_all p (get_or w (at + n) 0 ∷ [])) ∙ rw (all-one p (get_or w (at + n) 0))))
 
 -- what the words of a tracker are below
 pub record Narrow (w : List ℕ) (at : ℕ) : Type 0 where
@@ -160,26 +146,6 @@ module _ (w : List ℕ) (ts : List Tracker) (e : length w ≡ 132) (k : length t
 
   pub trackers-written : 8 ≤ x → splice w 68 (trackers_coded (take x ts)) ≡ splice w 68 (trackers_coded ts)
   trackers-written h = ap (λ (us : List Tracker). splice w 68 (trackers_coded us)) (take_all x ts (omega arith))
-
--- an answer's words
-pub said-is : (w : List ℕ) (t : Transfers) {r : List ℕ} {answer a : Answer} → length w ≡ 6 → answer ≡ a → r ≡ said_coded (says a) t
-    → r ≡ pick (eqb (length w) 6) (said_coded (says answer) t) w
-said-is w t e q p = rw (eq-eqb (length w) 6 e, q) p
-
-pub said-not : (w : List ℕ) (t : Transfers) (answer : Answer) → (length w ≡ 6 → ⊥) → w ≡ pick (eqb (length w) 6) (said_coded (says answer) t) w
-said-not w t answer h = rw (ne_eqb (length w) 6 h)
-
--- refused, or not
-module _ (w : List ℕ) (t : Transfers) (answer : Answer) {c : ℕ} (q : c ≡ number_of (says answer)) where
-  pub answer-no : 0 < c → w ≡ pick (eqb (length w) 6) (answer_coded (says answer) t w) w
-  answer-no h = rw (← q, ne_eqb c 0 (λ z. absurd (omega arith))) (pick_same (eqb (length w) 6))
-    where
-      pick_same : (b : Bool) → w ≡ pick b w w
-      pick_same true = refl
-      pick_same false = refl
-
-  pub answer-is : {r : List ℕ} → c ≡ 0 → r ≡ pick (eqb (length w) 6) (said_coded (says answer) t) w → r ≡ pick (eqb (length w) 6) (answer_coded (says answer) t w) w
-  answer-is z p = rw (← q, eq-eqb c 0 z) p
 
 -- a state written part by part is its coding
 module _ (s : State) (lined : length s.lines ≡ 64) (tracked : length s.trackers ≡ 8) where

@@ -3,7 +3,7 @@
 #![tactic(auto)]
 
 ghost use Rattle.std.specs.Prelude.{◌≡◌, true, suc, ◌+◌, ◌*◌, ◌≤◌, ◌<◌, eqb, length};
-ghost use Rattle.laws.specs.Choice.{pick, one};
+ghost use Rattle.laws.specs.Choice.{pick};
 ghost use Rattle.laws.specs.Scan.{all};
 ghost use Rattle.laws.specs.Bytes.{part, splice};
 ghost use Rattle.geometry.specs.TagMemory.{most_lines, most_trackers};
@@ -11,6 +11,7 @@ ghost use Rattle.tracker.specs.Answer.{says};
 ghost use Rattle.rules.specs.State.{zero_state};
 ghost use Rattle.cache.specs.Seen.{seen};
 ghost use Rattle.coding.specs.Words.{tracker_words, lines_place, tracker_place, state_words, most_level, phase_number, codes_phase, tracker_coded, trackers_coded, shape_coded, coded, phase_of, tracker_in, trackers_to, shape_in, decoded, codes_tracker, codes_line, codes};
+ghost use Rattle.coding.specs.Seen.{is_coded, coded_state};
 ghost use Rattle.coding.specs.Answer.{number_of, answer_words, answer_of, said_coded, answer_coded};
 
 use cache::State;
@@ -23,101 +24,81 @@ pub const TRACKER_WORDS: usize = 8;
 // Where the lines begin, and the trackers.
 const LINES: usize = 4;
 
-const TRACKERS: usize = 68;
+const TRACKERS: usize = LINES + Geometry::MOST_LINES;
 
 // The words of a state.
-pub const STATE_WORDS: usize = 132;
+pub const STATE_WORDS: usize = TRACKERS + TRACKER_WORDS * Geometry::MOST_TRACKERS;
 
 // The words of a step's answer.
 pub const ANSWER_WORDS: usize = 6;
 
 // What a refused call gives is this and the refusal.
-pub const REFUSED: u64 = 4294967296;
+pub use laws::REFUSED;
 
 // A field of a state that has 32 bits is below this, one that has 16, and one that has 8.
-const BITS_32: u64 = 4294967296;
+const BITS_32: u64 = 1 << u32::BITS;
 
-const BITS_16: u64 = 65536;
+const BITS_16: u64 = 1 << u16::BITS;
 
-const BITS_8: u64 = 256;
+const BITS_8: u64 = 1 << u8::BITS;
 
 // The phases without their level, of which there is room for eight.
 const PHASES: u64 = 8;
 
-// What words code: a state, or none. Where they code none the state is zero throughout, which is broken.
-#[derive(Drop)]
-pub struct Decoded {
-    pub coded: bool,
-    pub state: State,
-}
-
 // The number of a phase: which it is, and eight times its level.
+// Kept: no `From` and `TryFrom`, which may not stand here, since neither type is of this crate; a type of its own for the number is no plainer.
 fn phase_number(phase: Phase) -> u64
     ensures { result ≡ phase_number phase }
 {
     match phase {
         Phase::Idle => 0,
-        Phase::Probe(d) => 1 + PHASES * (d as u64),
+        Phase::Probe(d) => 1 + PHASES * u64::from(d),
         Phase::Top => 2,
-        Phase::Under(d) => 3 + PHASES * (d as u64),
-        Phase::Set(d) => 4 + PHASES * (d as u64),
-        Phase::Clear(d) => 5 + PHASES * (d as u64),
+        Phase::Under(d) => 3 + PHASES * u64::from(d),
+        Phase::Set(d) => 4 + PHASES * u64::from(d),
+        Phase::Clear(d) => 5 + PHASES * u64::from(d),
     }
 }
 
 // The phase that has a number.
+#[tactic(auto, unfolding(crate::specs::Words::phase_of))]
 fn phase_of(k: u64) -> Phase
     requires { k < 8 * suc most_level }
     ensures { result ≡ phase_of k }
 {
-    let which = k % PHASES;
     let level = (k / PHASES) as u8;
-    if which == 1 {
-        return Phase::Probe(level);
+    match k % PHASES {
+        1 => Phase::Probe(level),
+        2 => Phase::Top,
+        3 => Phase::Under(level),
+        4 => Phase::Set(level),
+        5 => Phase::Clear(level),
+        _ => Phase::Idle,
     }
-    if which == 2 {
-        return Phase::Top;
-    }
-    if which == 3 {
-        return Phase::Under(level);
-    }
-    if which == 4 {
-        return Phase::Set(level);
-    }
-    if which == 5 {
-        return Phase::Clear(level);
-    }
-    Phase::Idle
 }
 
 // A word is a phase's number.
+#[tactic(auto, unfolding(crate::specs::Words::codes_phase, laws::specs::Choice::both))]
 fn codes_phase(k: u64) -> bool
     ensures { result ≡ codes_phase k }
 {
-    if PHASES * BITS_8 <= k {
-        return false;
-    }
-    phase_number(phase_of(k)) == k
+    k < PHASES * BITS_8 && phase_number(phase_of(k)) == k
 }
 
 // The first word from `at` on is a phase's, and none is too wide for its field of a tracker.
+#[tactic(auto, unfolding(crate::specs::Words::codes_tracker, laws::specs::Choice::both))]
 fn codes_tracker(words: &[u64], at: usize) -> bool
     requires { at + tracker_words ≤ length words.now }
     ensures { result ≡ codes_tracker words.now at }
 {
-    laws::both(
-        laws::both(
-            laws::both(
-                codes_phase(words[at]),
-                laws::both(words[at + 1] < 2, words[at + 2] < 2),
-            ),
-            laws::both(
-                words[at + 3] < BITS_32,
-                laws::both(words[at + 4] < BITS_32, words[at + 5] < BITS_16),
-            ),
-        ),
-        laws::both(words[at + 6] < BITS_8, words[at + 7] < BITS_8),
-    )
+    codes_phase(words[at])
+        && words[at + 1] < 2
+        && words[at + 2] < 2
+        && words[at + 3] < BITS_32
+        && words[at + 4] < BITS_32
+        && words[at + 5] < BITS_16
+        && words[at + 6] < BITS_8
+        && words[at + 7] < BITS_8
 }
 
 // None of the lines' words is too wide for a line.
@@ -125,14 +106,7 @@ fn codes_lines(words: &[u64]) -> bool
     requires { length words.now ≡ state_words }
     ensures { result ≡ all (codes_line words.now) most_lines }
 {
-    let mut i: usize = 0;
-    while i < Geometry::MOST_LINES {
-        if BITS_32 <= words[LINES + i] {
-            return false;
-        }
-        i += 1;
-    }
-    true
+    words[LINES..TRACKERS].iter().all(|w| *w < BITS_32)
 }
 
 // None of the trackers' words is too wide for its field.
@@ -140,11 +114,8 @@ fn codes_trackers(words: &[u64]) -> bool
     requires { length words.now ≡ state_words }
     ensures { result ≡ all (λ x. codes_tracker words.now (tracker_place x)) most_trackers }
 {
-    let mut x: usize = 0;
-    while x < Geometry::MOST_TRACKERS {
-        if codes_tracker(words, TRACKERS + TRACKER_WORDS * x) {
-            x += 1;
-        } else {
+    for x in 0..Geometry::MOST_TRACKERS {
+        if !codes_tracker(words, TRACKERS + TRACKER_WORDS * x) {
             return false;
         }
     }
@@ -152,16 +123,15 @@ fn codes_trackers(words: &[u64]) -> bool
 }
 
 // The words code a state.
+#[tactic(auto, unfolding(crate::specs::Words::codes, laws::specs::Choice::both))]
 pub fn codes(words: &[u64]) -> bool
     ensures { result ≡ codes words.now }
 {
-    if words.len() != STATE_WORDS {
-        return false;
-    }
-    laws::both(
-        laws::both(words[0] < BITS_32, words[1] < BITS_32),
-        laws::both(codes_lines(words), codes_trackers(words)),
-    )
+    words.len() == STATE_WORDS
+        && words[0] < BITS_32
+        && words[1] < BITS_32
+        && codes_lines(words)
+        && codes_trackers(words)
 }
 
 // The tracker that the words from `at` on code.
@@ -188,11 +158,9 @@ fn lines_in(words: &[u64]) -> [u32; Geometry::MOST_LINES]
     requires { codes words.now ≡ true }
     ensures { result ≡ part words.now lines_place most_lines }
 {
-    let mut lines = [0u32; Geometry::MOST_LINES];
-    let mut i: usize = 0;
-    while i < Geometry::MOST_LINES {
-        lines[i] = words[LINES + i] as u32;
-        i += 1;
+    let mut lines = [0; Geometry::MOST_LINES];
+    for (i, line) in lines.iter_mut().enumerate() {
+        *line = words[LINES + i] as u32;
     }
     lines
 }
@@ -202,13 +170,9 @@ fn trackers_in(words: &[u64]) -> [Tracker; Geometry::MOST_TRACKERS]
     requires { codes words.now ≡ true }
     ensures { result ≡ trackers_to words.now most_trackers }
 {
-    let idle = Tracker::rest();
-    let mut trackers = [idle; Geometry::MOST_TRACKERS];
-    let mut x: usize = 0;
-    while x < Geometry::MOST_TRACKERS {
-        let tracker = tracker_in(words, TRACKERS + TRACKER_WORDS * x);
-        trackers[x] = tracker;
-        x += 1;
+    let mut trackers = [Tracker::rest(); Geometry::MOST_TRACKERS];
+    for (x, tracker) in trackers.iter_mut().enumerate() {
+        *tracker = tracker_in(words, TRACKERS + TRACKER_WORDS * x);
     }
     trackers
 }
@@ -227,57 +191,41 @@ fn shape_in(words: &[u64]) -> Shape
 }
 
 // The state that words code.
+#[tactic(auto, unfolding(crate::specs::Words::decoded))]
 fn state_in(words: &[u64]) -> State
     requires { codes words.now ≡ true }
     ensures { seen result ≡ decoded words.now }
 {
-    let shape = shape_in(words);
-    let lines = lines_in(words);
-    let trackers = trackers_in(words);
     State {
-        shape,
-        lines,
-        trackers,
+        shape: shape_in(words),
+        lines: lines_in(words),
+        trackers: trackers_in(words),
     }
 }
 
-// A state that is zero throughout.
-fn zero() -> State
-    ensures { seen result ≡ zero_state }
-{
-    let shape = Shape::start(0, 0, 0);
-    let idle = Tracker::rest();
-    State {
-        shape,
-        lines: [0; Geometry::MOST_LINES],
-        trackers: [idle; Geometry::MOST_TRACKERS],
-    }
-}
-
-// What words code.
-pub fn decode(words: &[u64]) -> Decoded
-    ensures { (result.coded ≡ codes words.now) × (seen result.state ≡ pick (codes words.now) (decoded words.now) zero_state) }
+// The state that words code, if they code one.
+pub fn decode(words: &[u64]) -> Option<State>
+    ensures { (is_coded result ≡ codes words.now) × (coded_state result ≡ pick (codes words.now) (decoded words.now) zero_state) }
 {
     if codes(words) {
-        let state = state_in(words);
-        return Decoded { coded: true, state };
-    }
-    let state = zero();
-    Decoded {
-        coded: false,
-        state,
+        Some(state_in(words))
+    } else {
+        None
     }
 }
 
 // n, T, L and the hand.
+#[tactic(auto, unfolding(laws::specs::Bytes::splice))]
 fn put_shape(words: &mut [u64], shape: Shape)
     requires { lines_place ≤ length words.old }
     ensures { words.new ≡ splice words.old 0 (shape_coded shape) }
 {
-    words[0] = shape.n as u64;
-    words[1] = shape.t as u64;
-    words[2] = shape.l as u64;
-    words[3] = shape.hand as u64;
+    words[..LINES].copy_from_slice(&[
+        u64::from(shape.n),
+        u64::from(shape.t),
+        shape.l as u64,
+        shape.hand as u64,
+    ]);
 }
 
 // The lines.
@@ -285,35 +233,27 @@ fn put_lines(words: &mut [u64], lines: [u32; Geometry::MOST_LINES])
     requires { length words.old ≡ state_words }
     ensures { words.new ≡ splice words.old lines_place lines }
 {
-    let mut i: usize = 0;
-    while i < Geometry::MOST_LINES {
-        words[LINES + i] = lines[i] as u64;
-        i += 1;
+    for (i, line) in lines.iter().enumerate() {
+        words[LINES + i] = u64::from(*line);
     }
 }
 
-// A word of a test.
-fn bit(b: bool) -> u64
-    ensures { result ≡ one b }
-{
-    if b { 1 } else { 0 }
-}
-
 // A tracker's words, from `at` on.
+#[tactic(auto, unfolding(laws::specs::Bytes::splice, crate::specs::Words::tracker_coded))]
 fn put_tracker(words: &mut [u64], at: usize, tracker: Tracker)
     requires { at + tracker_words ≤ length words.old }
     ensures { words.new ≡ splice words.old at (tracker_coded tracker) }
 {
-    let phase = tracker.phase;
-    words[at] = phase_number(phase);
-    words[at + 1] = bit(tracker.write);
-    words[at + 2] = bit(tracker.bottom);
-    words[at + 3] = tracker.group as u64;
-    words[at + 4] = tracker.value as u64;
-    words[at + 5] = tracker.turns as u64;
-    let transfers = tracker.transfers;
-    words[at + 6] = transfers.fetched as u64;
-    words[at + 7] = transfers.back as u64;
+    words[at..at + TRACKER_WORDS].copy_from_slice(&[
+        phase_number(tracker.phase),
+        u64::from(tracker.write),
+        u64::from(tracker.bottom),
+        u64::from(tracker.group),
+        u64::from(tracker.value),
+        u64::from(tracker.turns),
+        u64::from(tracker.transfers.fetched),
+        u64::from(tracker.transfers.back),
+    ]);
 }
 
 // The trackers, of which there are eight.
@@ -321,11 +261,8 @@ fn put_trackers(words: &mut [u64], trackers: [Tracker; Geometry::MOST_TRACKERS])
     requires { length words.old ≡ state_words }
     ensures { (words.new ≡ splice words.old (tracker_place 0) (trackers_coded trackers)) × (length trackers ≡ most_trackers) }
 {
-    let mut x: usize = 0;
-    while x < Geometry::MOST_TRACKERS {
-        let tracker = trackers[x];
-        put_tracker(words, TRACKERS + TRACKER_WORDS * x, tracker);
-        x += 1;
+    for (x, tracker) in trackers.iter().enumerate() {
+        put_tracker(words, TRACKERS + TRACKER_WORDS * x, *tracker);
     }
 }
 
@@ -336,12 +273,9 @@ pub fn encode(state: State, words: &mut [u64])
     if words.len() != STATE_WORDS {
         return;
     }
-    let shape = state.shape;
-    put_shape(words, shape);
-    let lines = state.lines;
-    put_lines(words, lines);
-    let trackers = state.trackers;
-    put_trackers(words, trackers);
+    put_shape(words, state.shape);
+    put_lines(words, state.lines);
+    put_trackers(words, state.trackers);
 }
 
 // The number that a call gives: 0, or REFUSED plus the refusal.
@@ -349,13 +283,8 @@ pub fn number_of(answer: Answer) -> u64
     ensures { result ≡ number_of (says answer) }
 {
     match answer {
-        Answer::Accepted => 0,
-        Answer::Wait => 0,
-        Answer::Moved => 0,
-        Answer::Read(_, _) => 0,
-        Answer::Done(_) => 0,
-        Answer::Same(_) => 0,
-        Answer::No(c) => REFUSED + c as u64,
+        Answer::No(c) => REFUSED + u64::from(c),
+        _ => 0,
     }
 }
 
@@ -364,15 +293,18 @@ fn put_words(words: &mut [u64], said: u64, v: u32, k: u16, t: Transfers)
     requires { length words.old ≡ answer_words }
     ensures { words.new ≡ answer_of said v k t }
 {
-    words[0] = said;
-    words[1] = v as u64;
-    words[2] = k as u64;
-    words[3] = t.fetched as u64;
-    words[4] = t.back as u64;
-    words[5] = 0;
+    words.copy_from_slice(&[
+        said,
+        u64::from(v),
+        u64::from(k),
+        u64::from(t.fetched),
+        u64::from(t.back),
+        0,
+    ]);
 }
 
 // The words become those of what was said, where there are as many as an answer has; else they stay as they came.
+// Kept: the numbers of what was said are those of C (TAG_WAIT to TAG_SAME of `include/tag_model.h`).
 pub fn put_said(answer: Answer, t: Transfers, words: &mut [u64])
     ensures { words.new ≡ pick (eqb (length words.old) answer_words) (said_coded (says answer) t) words.old }
 {
@@ -386,7 +318,7 @@ pub fn put_said(answer: Answer, t: Transfers, words: &mut [u64])
         Answer::Read(v, k) => put_words(words, 3, v, k, t),
         Answer::Done(k) => put_words(words, 4, 0, k, t),
         Answer::Same(k) => put_words(words, 5, 0, k, t),
-        Answer::No(c) => put_words(words, REFUSED + c as u64, 0, 0, t),
+        Answer::No(c) => put_words(words, REFUSED + u64::from(c), 0, 0, t),
     }
 }
 
@@ -394,8 +326,7 @@ pub fn put_said(answer: Answer, t: Transfers, words: &mut [u64])
 pub fn put_answer(answer: Answer, t: Transfers, words: &mut [u64])
     ensures { words.new ≡ pick (eqb (length words.old) answer_words) (answer_coded (says answer) t words.old) words.old }
 {
-    if 0 < number_of(answer) {
-        return;
+    if number_of(answer) == 0 {
+        put_said(answer, t, words);
     }
-    put_said(answer, t, words);
 }

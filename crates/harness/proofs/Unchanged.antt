@@ -1,14 +1,13 @@
 -- A call that gives a refusal changes nothing; a refused fresh or open leaves the words of the zero state, unless a number of words is wrong.
 use mathlib.Core.Path.{◌≡◌, refl, ap, ◌∙◌}
-use mathlib.Core.List.{List, ◌++◌}
+use mathlib.Core.List.{List}
 use mathlib.Core.Bool.{false}
 use mathlib.Core.Logic.{◌⊎◌, inl, inr, ⊎_elim}
 use Prim.Native.Nat.{ℕ, ◌<◌, ◌≤◌}
 use native.Mathlib.Omega.{arith}
 use borrow.Author.Tests.{ne_eqb}
 use lib.ListN.{get_or, replicate}
-use Rattle.laws.specs.Refusal.{refusal}
-use Rattle.laws.proofs.Refusals.{refusal-0, refusal-hold, refused-or-not, unless-by}
+use Rattle.laws.proofs.Refusals.{refusal-hold, refused-or-not, unless-by}
 use Rattle.tracker.specs.declared.Access.{Access}
 use Rattle.tracker.specs.declared.Transfers.{Transfers}
 use Rattle.tracker.specs.Transfers.{none}
@@ -18,11 +17,11 @@ use Rattle.rules.specs.Copies.{tally}
 use Rattle.rules.specs.Calls as calls
 use Rattle.rules.specs.Calls.{Out, issue, step_no, step, drain}
 use Rattle.rules.proofs.Keeps.{is_no}
-use Rattle.rules.proofs.Calls.{step-free, step-not-refused}
 use Rattle.cache.proofs.Refusals.{step-refused}
 use Rattle.coding.specs.Words.{coded, decoded, trackers_coded, tracker_coded}
 use Rattle.coding.specs.Answer.{refused_by, number_of, answer_coded}
 use Rattle.coding.proofs.Inverse.{coded-decoded}
+use Rattle.harness.proofs.Back.{fresh-back, open-back, issue-back, step-accepted}
 use Rattle.harness.specs.Calls.{Done, number_given, begins, tag_fresh, tag_open, word_tests, called, tag_issue, tag_drain, step_tests, tag_step}
 
 -- the words and the bytes are as they came
@@ -60,10 +59,6 @@ module _ (s : State) (bytes memory : List ℕ) where
   issue-stays x a =
       unless-by _ _ (λ (o : Out). 0 < number_of o.said → Stays o s bytes memory) (λ e h. absurd (omega arith)) (λ p h. (refl, refl, refl))
 
-  issue-few : (x : ℕ) (a : Access) → (issue s bytes memory x a).transfers.back < refused_by 0
-  unfolding issue
-  issue-few x a = unless-by _ _ (λ (o : Out). o.transfers.back < refused_by 0) (λ e. omega arith) (λ p. omega arith)
-
   drain-few : (drain s bytes memory).transfers.back < refused_by 0
   unfolding drain tally
   drain-few = unless-by _ _ (λ (o : Out). o.transfers.back < refused_by 0) (λ e. omega arith) (λ p. omega arith)
@@ -75,7 +70,7 @@ module _ (s : State) (bytes memory : List ℕ) where
 
 module _ (w bytes memory : List ℕ) where
   pub issue-same : (x : ℕ) (a : Access) → refused_by 0 ≤ (tag_issue w bytes memory x a).number → Same (tag_issue w bytes memory x a) w bytes memory
-  issue-same x a = called_same (λ s. issue s bytes memory x a) w bytes memory (λ s. issue-few s bytes memory x a) (λ s. issue-stays s bytes memory x a)
+  issue-same x a = called_same (λ s. issue s bytes memory x a) w bytes memory (λ s. omega (arith, issue-back s bytes memory x a)) (λ s. issue-stays s bytes memory x a)
 
   pub drain-same : refused_by 0 ≤ (tag_drain w bytes memory).number → Same (tag_drain w bytes memory) w bytes memory
   drain-same = called_same (λ s. drain s bytes memory) w bytes memory (λ s. drain-few s bytes memory) (λ s. drain-stays s bytes memory)
@@ -90,21 +85,11 @@ not-no (done k) e = refl
 not-no (same k) e = refl
 not-no (no c) e = let z : ◌≡◌ {A = ℕ} 0 1 = cc in absurd (omega arith)
 
-step_no-tests : (s : State) (bytes memory : List ℕ) (x : ℕ) → refusal (calls.state_tests s bytes memory ++ calls.step_tests s.shape x s.trackers) ≡ step_no s bytes memory x
-unfolding step_no
-step_no-tests s bytes memory x = refl
-
 module _ (s : State) (bytes memory : List ℕ) (x : ℕ) where
   step_stays : 0 < number_of (step s bytes memory x).said → (c : ℕ) × (step s bytes memory x ≡ calls.refused c s bytes memory)
   step_stays h =
-      ⊎_elim (λ e. absurd (omega (arith, not-no (step s bytes memory x).said (accepted e))))
+      ⊎_elim (λ e. absurd (omega (arith, not-no (step s bytes memory x).said (step-accepted s bytes memory x e))))
       (λ p. (step_no s bytes memory x, step-refused s bytes memory x (step_no s bytes memory x) refl p)) (refused-or-not (step_no s bytes memory x))
-    where
-      accepted : step_no s bytes memory x ≡ 0 → is_no (step s bytes memory x).said ≡ false
-      accepted e =
-          let q = refusal-hold (calls.state_tests s bytes memory ++ calls.step_tests s.shape x s.trackers) refl (step_no-tests s bytes memory x ∙ e) in
-          let r = step-free s bytes memory q.0 q.1.0 x (refusal-0 (calls.step_tests s.shape x s.trackers) q.1.1) in
-          step-not-refused s bytes memory q.0 q.1.0 x r.0 r.1
 
 no_answer : (c : ℕ) (t : Transfers) (answer : List ℕ) → answer_coded (no c) t answer ≡ answer
 no_answer c t answer = rw (ne_eqb (refused_by c) 0 (λ e. absurd (omega arith)))
@@ -124,14 +109,6 @@ unfolding coded trackers_coded tracker_coded
 zero-words = refl
 
 module _ (n t l : ℕ) (bytes memory : List ℕ) where
-  fresh-few : (calls.fresh n t l bytes memory).transfers.back < refused_by 0
-  unfolding calls.fresh
-  fresh-few = unless-by _ _ (λ (o : Out). o.transfers.back < refused_by 0) (λ e. omega arith) (λ p. omega arith)
-
-  open-few : (calls.opened n t l bytes memory).transfers.back < refused_by 0
-  unfolding calls.opened
-  open-few = unless-by _ _ (λ (o : Out). o.transfers.back < refused_by 0) (λ e. omega arith) (λ p. omega arith)
-
   fresh-stays : 0 < number_of (calls.fresh n t l bytes memory).said → Stays (calls.fresh n t l bytes memory) zero_state bytes memory
   unfolding calls.fresh
   fresh-stays =
@@ -156,8 +133,8 @@ module _ (f : ℕ → ℕ → ℕ → Out) (device w bytes memory : List ℕ) wh
 module _ (device w bytes memory : List ℕ) where
   pub fresh-same : refused_by 0 ≤ (tag_fresh device w bytes memory).number
       → (((tag_fresh device w bytes memory).words ≡ w) ⊎ ((tag_fresh device w bytes memory).words ≡ replicate 132 0)) × ((tag_fresh device w bytes memory).bytes ≡ bytes) × ((tag_fresh device w bytes memory).memory ≡ memory)
-  fresh-same = begins-same (λ n t l. calls.fresh n t l bytes memory) device w bytes memory (λ n t l. fresh-few n t l bytes memory) (λ n t l. fresh-stays n t l bytes memory)
+  fresh-same = begins-same (λ n t l. calls.fresh n t l bytes memory) device w bytes memory (λ n t l. omega (arith, fresh-back n t l bytes memory)) (λ n t l. fresh-stays n t l bytes memory)
 
   pub open-same : refused_by 0 ≤ (tag_open device w bytes memory).number
       → (((tag_open device w bytes memory).words ≡ w) ⊎ ((tag_open device w bytes memory).words ≡ replicate 132 0)) × ((tag_open device w bytes memory).bytes ≡ bytes) × ((tag_open device w bytes memory).memory ≡ memory)
-  open-same = begins-same (λ n t l. calls.opened n t l bytes memory) device w bytes memory (λ n t l. open-few n t l bytes memory) (λ n t l. open_stays n t l bytes memory)
+  open-same = begins-same (λ n t l. calls.opened n t l bytes memory) device w bytes memory (λ n t l. omega (arith, open-back n t l bytes memory)) (λ n t l. open_stays n t l bytes memory)

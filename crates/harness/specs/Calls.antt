@@ -1,8 +1,9 @@
 -- The calls of a licensee's harness: the state is lent as words, and each gives a number. Each is the rules' own call on the state that the words code.
-use Rattle.std.specs.Prelude.{List, [], ◌∷◌, ℕ, ◌+◌, ◌-◌, ◌*◌, eqb, ltb, length, get_or}
+use Rattle.std.specs.Prelude.{List, [], ◌∷◌, Bool, ℕ, ◌+◌, ◌-◌, ◌*◌, eqb, ltb, length, get_or, Result, Ok, Err}
 use Rattle.laws.specs.Choice.{pick, both, one}
 use Rattle.laws.specs.Bytes.{part}
-use Rattle.laws.specs.Refusal.{Tests, refusal, unless}
+use Rattle.laws.specs.declared.Refusal.{Refusal}
+use Rattle.laws.specs.Refusal.{Tests, number, refusal, unless}
 use Rattle.tracker.specs.declared.Access.{Access}
 use Rattle.tracker.specs.declared.Transfers.{Transfers}
 use Rattle.tracker.specs.Answer.{Said}
@@ -102,3 +103,8 @@ tag_show w bytes memory k = unless (refusal (word_tests w)) (shown_at (decoded w
 -- "`tag_whole` gives 1 or 0"
 unfoldable pub tag_whole : List ℕ → ℕ
 tag_whole w = unless (refusal ((eqb (length w) state_words, 2) ∷ [])) (one (both (codes w) (whole (decoded w)))) refused_by
+
+-- 1 or 0, or the refusal
+abbrev pub given_whether : Result Bool Refusal → ℕ
+given_whether (Ok b) = one b
+given_whether (Err r) = refused_by (number r)

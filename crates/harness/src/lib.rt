@@ -2,94 +2,128 @@
 // No public function has a `requires`: words, bytes and numbers can be anything. Refused, nothing changes but the words of a refused fresh or open.
 #![tactic(auto)]
 
-ghost use Rattle.std.specs.Prelude.{◌≡◌, ◌-◌, eqb, ltb, length};
+ghost use Rattle.std.specs.Prelude.{◌≡◌, ◌-◌, eqb, ltb, length, IfOk, slice_index};
 ghost use Rattle.laws.specs.Choice.{pick};
+ghost use Rattle.laws.specs.Refusal.{number, refused_with, given, given_done, refusal};
+ghost use Rattle.laws.specs.declared.Refusal.{Refusal};
 ghost use Rattle.geometry.specs.TagMemory.{values};
 ghost use Rattle.tracker.specs.Answer.{says};
+ghost use Rattle.rules.specs.Calls.{show_no};
 ghost use Rattle.cache.specs.Seen.{seen};
-ghost use Rattle.coding.specs.Words.{state_words, coded};
-ghost use Rattle.coding.specs.Answer.{refused_by};
-ghost use Rattle.harness.specs.Calls.{number_given, done, tag_fresh, tag_open, access_of, tag_issue, tag_drain, tag_step, shown_at, tag_show, tag_whole};
+ghost use Rattle.coding.specs.Words.{state_words, coded, decoded};
+ghost use Rattle.coding.specs.Answer.{number_of};
+ghost use Rattle.harness.specs.Calls.{done, begin_tests, word_tests, tag_fresh, tag_open, access_of, tag_issue, tag_drain, tag_step, shown_at, tag_show, tag_whole, given_whether};
+ghost use Rattle.harness.specs.Told.{Told};
 
 use cache::{Out, State};
 use geometry::Geometry;
-use tracker::Access;
-
-// The words of a device: n, T, L.
-pub const DEVICE_WORDS: usize = 3;
+use laws::Refusal;
+use tracker::{Access, Answer};
 
 // The largest number of a group that an access can carry.
-const MOST_GROUP: u64 = 4294967295;
+const MOST_GROUP: u64 = u32::MAX as u64;
 
 // A leaf that is shown in memory has its place there plus this and one.
-const IN_MEMORY: u64 = 1099511627776;
+const IN_MEMORY: u64 = 1 << 40;
 
-// What a refused call gives.
-pub fn refused(c: u8) -> u64
-    ensures { result ≡ refused_by c }
+// n, T and L of a device, where the words of the state are as many as a state has: refusal 2.
+fn device_in(device: &[u64], state: &[u64]) -> Result<(u64, u64, u64), Refusal>
+    ensures refusals { refused_with result ≡ refusal (begin_tests device.now state.now) }
+    ensures device { IfOk result (λ d. (d.0 ≡ slice_index device.now 0) × (d.1 ≡ slice_index device.now 1) × (d.2 ≡ slice_index device.now 2)) }
 {
-    coding::REFUSED + c as u64
+    match device {
+        &[n, t, l] if state.len() == coding::STATE_WORDS => Ok((n, t, l)),
+        _ => Err(Refusal::OtherLength),
+    }
 }
 
-// The words of the state that a call hands back, and the number that it gives.
-fn leave(r: Out, state: &mut [u64]) -> u64
-    ensures { (result ≡ number_given (says r.answer) r.transfers) × (state.new ≡ pick (eqb (length state.old) state_words) (coded (seen r.state)) state.old) }
+// The state that lent words code: refusals 2, 4.
+fn state_in(words: &[u64]) -> Result<State, Refusal>
+    ensures refusals { refused_with result ≡ refusal (word_tests words.now) }
+    ensures state { IfOk result (λ s. seen s ≡ decoded words.now) }
 {
-    let left = r.state;
-    coding::encode(left, state);
-    let answer = r.answer;
-    let c = coding::number_of(answer);
-    if 0 < c {
-        return c;
+    if words.len() != coding::STATE_WORDS {
+        return Err(Refusal::OtherLength);
     }
-    let t = r.transfers;
-    t.back as u64
+    coding::decode(words).ok_or(Refusal::BrokenState)
 }
 
-// A fresh memory under the device: refusals 2, then 1, 2.
-pub fn fresh(device: &[u64], state: &mut [u64], bytes: &[u8], memory: &mut [u8]) -> u64
-    ensures { done result state.new bytes.now memory.new ≡ tag_fresh device.now state.old bytes.now memory.old }
+// The refusal that has a number.
+// Kept: an answer carries the number (tracker `Answer::No`).
+fn refusal_of(c: u8) -> Refusal
+    requires { (r : Refusal) × (number r ≡ c) }
+    ensures { number result ≡ c }
 {
-    if device.len() != DEVICE_WORDS {
-        return refused(2);
+    match c {
+        1 => Refusal::OutsideLimits,
+        2 => Refusal::OtherLength,
+        3 => Refusal::NotTrue,
+        4 => Refusal::BrokenState,
+        5 => Refusal::NoTracker,
+        6 => Refusal::NoGroup,
+        7 => Refusal::BusyTracker,
+        8 => Refusal::IdleTracker,
+        9 => Refusal::NoRoom,
+        10 => Refusal::WrongCheck,
+        11 => Refusal::OtherRule,
+        12 => Refusal::OtherForm,
+        13 => Refusal::SharedGroup,
+        _ => Refusal::OtherRun,
     }
-    if state.len() != coding::STATE_WORDS {
-        return refused(2);
+}
+
+// The refusal of a call, if it is refused.
+fn told(answer: Answer) -> Result<(), Refusal>
+    requires { Told (says answer) }
+    ensures { given_done result ≡ number_of (says answer) }
+{
+    match answer {
+        Answer::No(c) => Err(refusal_of(c)),
+        _ => Ok(()),
     }
-    let r = State::fresh(device[0], device[1], device[2], bytes, memory);
+}
+
+// The words of the state that a call hands back, and its refusal, if it is refused.
+fn leave(r: Out, state: &mut [u64]) -> Result<(), Refusal>
+    requires { Told (says r.answer) }
+    ensures { (given_done result ≡ number_of (says r.answer)) × (state.new ≡ pick (eqb (length state.old) state_words) (coded (seen r.state)) state.old) }
+{
+    coding::encode(r.state, state);
+    told(r.answer)
+}
+
+// A fresh memory under the device, n, T and L: refusals 2, then 1, 2.
+pub fn fresh(
+    device: &[u64],
+    state: &mut [u64],
+    bytes: &[u8],
+    memory: &mut [u8],
+) -> Result<(), Refusal>
+    ensures { done (given_done result) state.new bytes.now memory.new ≡ tag_fresh device.now state.old bytes.now memory.old }
+{
+    let (n, t, l) = device_in(device, state)?;
+    let r = State::fresh(n, t, l, bytes, memory);
     leave(r, state)
 }
 
-// A memory as it is, under the device: refusals 2, then 1, 2, 3.
-pub fn open(device: &[u64], state: &mut [u64], bytes: &[u8], memory: &[u8]) -> u64
-    ensures { done result state.new bytes.now memory.now ≡ tag_open device.now state.old bytes.now memory.now }
+// A memory as it is, under the device, n, T and L: refusals 2, then 1, 2, 3.
+pub fn open(device: &[u64], state: &mut [u64], bytes: &[u8], memory: &[u8]) -> Result<(), Refusal>
+    ensures { done (given_done result) state.new bytes.now memory.now ≡ tag_open device.now state.old bytes.now memory.now }
 {
-    if device.len() != DEVICE_WORDS {
-        return refused(2);
-    }
-    if state.len() != coding::STATE_WORDS {
-        return refused(2);
-    }
-    let r = State::open(device[0], device[1], device[2], bytes, memory);
+    let (n, t, l) = device_in(device, state)?;
+    let r = State::open(n, t, l, bytes, memory);
     leave(r, state)
 }
 
+// Kept: `write`, `bottom` and `g` are numbers of 64 bits, as C hands them over (`tag_issue`); state, line bytes and memory are lent apart, as C lends them.
 // The access that the numbers say. A group too large for it becomes the largest, which no memory has either.
 pub fn access_of(write: u64, bottom: u64, g: u64, v: u32) -> Access
     ensures { result ≡ access_of write bottom (pick (ltb g values) g (values - 1)) v }
 {
-    if g <= MOST_GROUP {
-        return Access {
-            write: 0 < write,
-            bottom: 0 < bottom,
-            group: g as u32,
-            value: v,
-        };
-    }
     Access {
         write: 0 < write,
         bottom: 0 < bottom,
-        group: MOST_GROUP as u32,
+        group: g.min(MOST_GROUP) as u32,
         value: v,
     }
 }
@@ -104,19 +138,11 @@ pub fn issue(
     bottom: u64,
     g: u64,
     v: u32,
-) -> u64
-    ensures { done result state.new bytes.now memory.now ≡ tag_issue state.old bytes.now memory.now x (access_of write bottom g v) }
+) -> Result<(), Refusal>
+    ensures { done (given_done result) state.new bytes.now memory.now ≡ tag_issue state.old bytes.now memory.now x (access_of write bottom g v) }
 {
-    if state.len() != coding::STATE_WORDS {
-        return refused(2);
-    }
-    let given = coding::decode(state);
-    if !given.coded {
-        return refused(4);
-    }
-    let s = given.state;
-    let access = access_of(write, bottom, g, v);
-    let r = s.issue(bytes, memory, x, access);
+    let s = state_in(state)?;
+    let r = s.issue(bytes, memory, x, access_of(write, bottom, g, v));
     leave(r, state)
 }
 
@@ -127,93 +153,65 @@ pub fn step(
     memory: &mut [u8],
     x: u64,
     answer: &mut [u64],
-) -> u64
-    ensures { (done result state.new bytes.new memory.new, answer.new) ≡ tag_step state.old bytes.old memory.old x answer.old }
+) -> Result<(), Refusal>
+    ensures { (done (given_done result) state.new bytes.new memory.new, answer.new) ≡ tag_step state.old bytes.old memory.old x answer.old }
 {
-    if state.len() != coding::STATE_WORDS {
-        return refused(2);
-    }
     if answer.len() != coding::ANSWER_WORDS {
-        return refused(2);
+        return Err(Refusal::OtherLength);
     }
-    let given = coding::decode(state);
-    if !given.coded {
-        return refused(4);
-    }
-    let s = given.state;
+    let s = state_in(state)?;
     let r = s.step(bytes, memory, x);
-    let said = r.answer;
-    let transfers = r.transfers;
-    coding::put_answer(said, transfers, answer);
-    let after = r.state;
-    coding::encode(after, state);
-    coding::number_of(said)
-}
-
-// The changed lines are written to memory and marked clean: refusals 2, 4, then those of a drain.
-pub fn drain(state: &mut [u64], bytes: &[u8], memory: &mut [u8]) -> u64
-    ensures { done result state.new bytes.now memory.new ≡ tag_drain state.old bytes.now memory.old }
-{
-    if state.len() != coding::STATE_WORDS {
-        return refused(2);
-    }
-    let given = coding::decode(state);
-    if !given.coded {
-        return refused(4);
-    }
-    let s = given.state;
-    let r = s.drain(bytes, memory);
+    coding::put_answer(r.answer, r.transfers, answer);
     leave(r, state)
 }
 
-// Where a state shows leaf k.
-fn shown_at<'a>(s: State, bytes: &'a [u8], memory: &'a [u8], k: u64) -> u64
+// The changed lines are written to memory and marked clean; the blocks written back: refusals 2, 4, then those of a drain.
+pub fn drain(state: &mut [u64], bytes: &[u8], memory: &mut [u8]) -> Result<u64, Refusal>
+    ensures { done (given result) state.new bytes.now memory.new ≡ tag_drain state.old bytes.now memory.old }
+{
+    let s = state_in(state)?;
+    let r = s.drain(bytes, memory);
+    leave(r, state)?;
+    Ok(u64::from(r.transfers.back))
+}
+
+// Where a state shows leaf k, which it is not refused to show.
+fn place_of<'a>(s: State, bytes: &'a [u8], memory: &'a [u8], k: u64) -> u64
+    requires { show_no (seen s) bytes.now memory.now k ≡ 0 }
     ensures { result ≡ shown_at (seen s) bytes.now memory.now k }
 {
-    if let Err(r) = s.can_show(bytes, memory, k) {
-        return refused(u8::from(r));
-    }
     let l = s.shape.l;
     let i = line::line_of(&s.lines, l, k as u32);
     if i < l {
         return 1 + (Geometry::BLOCK_LEN * i) as u64;
     }
-    let shown = s.show(bytes, memory, k);
-    if shown.len() == 0 {
+    if s.show(bytes, memory, k).is_empty() {
         return 0;
     }
     IN_MEMORY + (1 + Geometry::BLOCK_LEN as u64 * k)
 }
 
-// Where leaf k is shown: 0 for an empty part, else 1 plus its place in the line bytes, or IN_MEMORY plus 1 plus its place in memory. Refusals 2, 4, then those of showing.
-pub fn show<'a>(state: &[u64], bytes: &'a [u8], memory: &'a [u8], k: u64) -> u64
-    ensures { result ≡ tag_show state.now bytes.now memory.now k }
+// Where a state shows leaf k.
+fn shown_at<'a>(s: State, bytes: &'a [u8], memory: &'a [u8], k: u64) -> Result<u64, Refusal>
+    ensures { given result ≡ shown_at (seen s) bytes.now memory.now k }
 {
-    if state.len() != coding::STATE_WORDS {
-        return refused(2);
-    }
-    let given = coding::decode(state);
-    if !given.coded {
-        return refused(4);
-    }
-    let s = given.state;
-    shown_at(s, bytes, memory, k)
+    s.can_show(bytes, memory, k)?;
+    Ok(place_of(s, bytes, memory, k))
 }
 
-// 1 where the state is whole, else 0. Refusal 2.
-pub fn whole(state: &[u64]) -> u64
-    ensures { result ≡ tag_whole state.now }
+// Where leaf k is shown: 0 for an empty part, else 1 plus its place in the line bytes, or IN_MEMORY plus 1 plus its place in memory. Refusals 2, 4, then those of showing.
+pub fn show<'a>(state: &[u64], bytes: &'a [u8], memory: &'a [u8], k: u64) -> Result<u64, Refusal>
+    ensures { given result ≡ tag_show state.now bytes.now memory.now k }
+{
+    shown_at(state_in(state)?, bytes, memory, k)
+}
+
+// The state is whole. Refusal 2.
+pub fn whole(state: &[u64]) -> Result<bool, Refusal>
+    ensures { given_whether result ≡ tag_whole state.now }
 {
     if state.len() != coding::STATE_WORDS {
-        return refused(2);
+        return Err(Refusal::OtherLength);
     }
-    let given = coding::decode(state);
-    if !given.coded {
-        return 0;
-    }
-    let s = given.state;
-    if s.whole() {
-        return 1;
-    }
-    0
+    Ok(coding::decode(state).is_some_and(|s| s.whole()))
 }

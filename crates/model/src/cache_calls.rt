@@ -13,7 +13,7 @@ pub extern "C" fn tag_fresh(
 ) -> u64
     ensures { done result state.new bytes.now memory.new ≡ tag_fresh device.now state.old bytes.now memory.old }
 {
-    harness::fresh(device, state, bytes, memory)
+    laws::given_done(harness::fresh(device, state, bytes, memory))
 }
 
 // A memory as it is, under a device: 0, or 4,294,967,296 plus the refusal.
@@ -21,7 +21,7 @@ pub extern "C" fn tag_fresh(
 pub extern "C" fn tag_open(device: &[u64], state: &mut [u64], bytes: &[u8], memory: &[u8]) -> u64
     ensures { done result state.new bytes.now memory.now ≡ tag_open device.now state.old bytes.now memory.now }
 {
-    harness::open(device, state, bytes, memory)
+    laws::given_done(harness::open(device, state, bytes, memory))
 }
 
 // An access for tracker x: 0, or 4,294,967,296 plus the refusal.
@@ -38,7 +38,7 @@ pub extern "C" fn tag_issue(
 ) -> u64
     ensures { done result state.new bytes.now memory.now ≡ tag_issue state.old bytes.now memory.now x (access_of write bottom g v) }
 {
-    harness::issue(state, bytes, memory, x, write, bottom, g, v)
+    laws::given_done(harness::issue(state, bytes, memory, x, write, bottom, g, v))
 }
 
 // One step of tracker x, and the words of its answer: 0, or 4,294,967,296 plus the refusal.
@@ -52,7 +52,7 @@ pub extern "C" fn tag_step(
 ) -> u64
     ensures { (done result state.new bytes.new memory.new, answer.new) ≡ tag_step state.old bytes.old memory.old x answer.old }
 {
-    harness::step(state, bytes, memory, x, answer)
+    laws::given_done(harness::step(state, bytes, memory, x, answer))
 }
 
 // The changed lines are written to memory: 0, or 4,294,967,296 plus the refusal.
@@ -60,7 +60,7 @@ pub extern "C" fn tag_step(
 pub extern "C" fn tag_drain(state: &mut [u64], bytes: &[u8], memory: &mut [u8]) -> u64
     ensures { done result state.new bytes.now memory.new ≡ tag_drain state.old bytes.now memory.old }
 {
-    harness::drain(state, bytes, memory)
+    laws::given(harness::drain(state, bytes, memory))
 }
 
 // Where leaf k is shown, or 4,294,967,296 plus the refusal.
@@ -68,7 +68,7 @@ pub extern "C" fn tag_drain(state: &mut [u64], bytes: &[u8], memory: &mut [u8]) 
 pub extern "C" fn tag_show<'a>(state: &[u64], bytes: &'a [u8], memory: &'a [u8], k: u64) -> u64
     ensures { result ≡ tag_show state.now bytes.now memory.now k }
 {
-    harness::show(state, bytes, memory, k)
+    laws::given(harness::show(state, bytes, memory, k))
 }
 
 // 1 where the state is whole, else 0, or 4,294,967,296 plus the refusal.
@@ -76,7 +76,7 @@ pub extern "C" fn tag_show<'a>(state: &[u64], bytes: &'a [u8], memory: &'a [u8],
 pub extern "C" fn tag_whole(state: &[u64]) -> u64
     ensures { result ≡ tag_whole state.now }
 {
-    harness::whole(state)
+    laws::given(harness::whole(state).map(u64::from))
 }
 
 // Calls played one after another, each with its answer's words: 0, or 4,294,967,296 plus the refusal.
@@ -90,5 +90,5 @@ pub extern "C" fn tag_run(
 ) -> u64
     ensures { (done result state.new bytes.new memory.new, answers.new) ≡ tag_run state.old bytes.old memory.old calls.now answers.old }
 {
-    running::run(state, bytes, memory, calls, answers)
+    laws::given_done(running::run(state, bytes, memory, calls, answers))
 }

@@ -30,30 +30,28 @@ use Rattle.running.specs.Run.{calls_in, asked_in, Ran, ran, lengths_fit, run_tes
 module _ (k : Kept) (c : List ℕ) (at : ℕ) where
   pub asked-step : get_or c at 0 ≡ 2 → takes k (Step (get_or c (at + 1) 0)) ≡ takes k (asked_in c at)
   unfolding asked_in
-  asked-step e = rw (eq-eqb (get_or c at 0) 2 e)
+  asked-step e = rw e
 
-  module _ (n2 : get_or c at 0 ≡ 2 → ⊥) where
-    pub asked-drain : get_or c at 0 ≡ 3 → takes k Drain ≡ takes k (asked_in c at)
-    unfolding asked_in
-    asked-drain e = rw (ne_eqb (get_or c at 0) 2 n2, eq-eqb (get_or c at 0) 3 e)
+  pub asked-drain : get_or c at 0 ≡ 3 → takes k Drain ≡ takes k (asked_in c at)
+  unfolding asked_in
+  asked-drain e = rw e
 
-    module _ (n3 : get_or c at 0 ≡ 3 → ⊥) where
-      pub asked-kind : (get_or c at 0 ≡ 1 → ⊥) → takes k Other ≡ takes k (asked_in c at)
-      unfolding asked_in both
-      asked-kind n = rw (ne_eqb (get_or c at 0) 2 n2, ne_eqb (get_or c at 0) 3 n3, ne_eqb (get_or c at 0) 1 n)
+  pub asked-other : (get_or c at 0 ≡ 1 → ⊥) → (get_or c at 0 ≡ 2 → ⊥) → (get_or c at 0 ≡ 3 → ⊥) → takes k Other ≡ takes k (asked_in c at)
+  unfolding asked_in both
+  asked-other n1 n2 n3 = rw (ne_eqb (get_or c at 0) 2 n2, ne_eqb (get_or c at 0) 3 n3, ne_eqb (get_or c at 0) 1 n1)
 
-      module _ (e : get_or c at 0 ≡ 1) where
-        pub asked-wide : values ≤ get_or c (at + 5) 0 → takes k Other ≡ takes k (asked_in c at)
-        unfolding asked_in both
-        asked-wide h = rw (ne_eqb (get_or c at 0) 2 n2, ne_eqb (get_or c at 0) 3 n3, eq-eqb (get_or c at 0) 1 e, le-ltb (get_or c (at + 5) 0) values h)
+  module _ (e : get_or c at 0 ≡ 1) where
+    pub asked-wide : values ≤ get_or c (at + 5) 0 → takes k Other ≡ takes k (asked_in c at)
+    unfolding asked_in both
+    asked-wide h = rw (e, le-ltb (get_or c (at + 5) 0) values h)
 
-        pub asked-issue : {a : Access} → get_or c (at + 5) 0 < values
-            → a ≡ access_of (get_or c (at + 2) 0) (get_or c (at + 3) 0) (pick (ltb (get_or c (at + 4) 0) values) (get_or c (at + 4) 0) (values - 1)) (get_or c (at + 5) 0)
-            → takes k (Issue (get_or c (at + 1) 0) a) ≡ takes k (asked_in c at)
-        unfolding asked_in both does
-        asked-issue h q =
-            rw (q, ne_eqb (get_or c at 0) 2 n2, ne_eqb (get_or c at 0) 3 n3, eq-eqb (get_or c at 0) 1 e, lt-ltb (get_or c (at + 5) 0) values h)
-            (issue-wide k.state k.bytes k.memory (get_or c (at + 1) 0) (get_or c (at + 2) 0) (get_or c (at + 3) 0) (get_or c (at + 5) 0) (get_or c (at + 4) 0))
+    pub asked-issue : {a : Access} → get_or c (at + 5) 0 < values
+        → a ≡ access_of (get_or c (at + 2) 0) (get_or c (at + 3) 0) (pick (ltb (get_or c (at + 4) 0) values) (get_or c (at + 4) 0) (values - 1)) (get_or c (at + 5) 0)
+        → takes k (Issue (get_or c (at + 1) 0) a) ≡ takes k (asked_in c at)
+    unfolding asked_in both does
+    asked-issue h q =
+        rw (q, e, lt-ltb (get_or c (at + 5) 0) values h)
+        (issue-wide k.state k.bytes k.memory (get_or c (at + 1) 0) (get_or c (at + 2) 0) (get_or c (at + 3) 0) (get_or c (at + 5) 0) (get_or c (at + 4) 0))
 
 -- refused, or not
 module _ (w bytes memory calls answers : List ℕ) where

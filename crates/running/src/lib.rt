@@ -3,7 +3,7 @@
 #![tactic(auto)]
 
 ghost use Rattle.std.specs.Prelude.{◌≡◌, true, ◌+◌, ◌*◌, ◌≤◌, length};
-ghost use Rattle.laws.specs.Choice.{both};
+ghost use Rattle.laws.specs.Refusal.{given_done};
 ghost use Rattle.laws.specs.Bytes.{splice};
 ghost use Rattle.tracker.specs.Answer.{says};
 ghost use Rattle.rules.specs.State.{lengths_right};
@@ -17,7 +17,7 @@ ghost use Rattle.running.specs.Run.{call_words, calls_in, lengths_fit, asked_in,
 ghost use Rattle.running.specs.Seen.{kept, left};
 
 use cache::State;
-use geometry::Geometry;
+use laws::Refusal;
 use tracker::{Answer, Transfers};
 use turn::Asked;
 
@@ -25,6 +25,7 @@ use turn::Asked;
 pub const CALL_WORDS: usize = 6;
 
 // What a call is.
+// Kept: the numbers are those of C (TAG_ISSUE, TAG_STEP, TAG_DRAIN of `include/tag_model.h`).
 const ISSUE: u64 = 1;
 
 const STEP: u64 = 2;
@@ -32,7 +33,7 @@ const STEP: u64 = 2;
 const DRAIN: u64 = 3;
 
 // The largest value that an access can carry.
-const MOST_VALUE: u64 = 4294967295;
+const MOST_VALUE: u64 = u32::MAX as u64;
 
 // What the words from `at` on ask for.
 fn asked_in(calls: &[u64], at: usize) -> Asked
@@ -40,21 +41,16 @@ fn asked_in(calls: &[u64], at: usize) -> Asked
     ensures { (k : Kept) → takes k result ≡ takes k (asked_in calls.now at) }
 {
     let x = calls[at + 1];
-    if calls[at] == STEP {
-        return Asked::Step(x);
-    }
-    if calls[at] == DRAIN {
-        return Asked::Drain;
-    }
-    if calls[at] != ISSUE {
-        return Asked::Other;
-    }
     let v = calls[at + 5];
-    if MOST_VALUE < v {
-        return Asked::Other;
+    match calls[at] {
+        ISSUE if v <= MOST_VALUE => Asked::Issue(
+            x,
+            harness::access_of(calls[at + 2], calls[at + 3], calls[at + 4], v as u32),
+        ),
+        STEP => Asked::Step(x),
+        DRAIN => Asked::Drain,
+        _ => Asked::Other,
     }
-    let access = harness::access_of(calls[at + 2], calls[at + 3], calls[at + 4], v as u32);
-    Asked::Issue(x, access)
 }
 
 // An answer's words, from `at` on.
@@ -77,26 +73,15 @@ fn run_calls(
     ensures { left result bytes.new memory.new answers.new ≡ ran (kept state bytes.old memory.old) calls.now answers.old (calls_in calls.now) }
 {
     let mut shape = state.shape;
-    let ls = state.lines;
-    let ts = state.trackers;
-    let mut lines = turn::row(ls);
-    let mut trackers = turn::table(ts);
-    let end = calls.len() / CALL_WORDS;
-    let mut i: usize = 0;
-    while i < end {
-        let place = coding::ANSWER_WORDS * i;
+    let mut lines = turn::row(state.lines);
+    let mut trackers = turn::table(state.trackers);
+    for i in 0..calls.len() / CALL_WORDS {
         let a = asked_in(calls, CALL_WORDS * i);
         let x = turn::named(shape.t, a);
-        let u = trackers[x];
-        let r = turn::take(shape, a, trackers, u, &mut lines, bytes, memory);
-        let moved = r.shape;
-        shape = moved;
-        let v = r.tracker;
-        trackers[x] = v;
-        let answer = r.answer;
-        let transfers = r.transfers;
-        put_at(answers, place, answer, transfers);
-        i += 1;
+        let r = turn::take(shape, a, trackers, trackers[x], &mut lines, bytes, memory);
+        shape = r.shape;
+        trackers[x] = r.tracker;
+        put_at(answers, coding::ANSWER_WORDS * i, r.answer, r.transfers);
     }
     State {
         shape,
@@ -106,17 +91,14 @@ fn run_calls(
 }
 
 // The numbers of words are those of a state, of calls, and of as many answers.
+#[tactic(auto, unfolding(laws::specs::Choice::both))]
 fn lengths_fit(state: &[u64], calls: &[u64], answers: &[u64]) -> bool
     ensures { result ≡ lengths_fit state.now calls.now answers.now }
 {
     let n = calls.len() / CALL_WORDS;
-    laws::both(
-        state.len() == coding::STATE_WORDS,
-        laws::both(
-            calls.len() == CALL_WORDS * n,
-            answers.len() == coding::ANSWER_WORDS * n,
-        ),
-    )
+    state.len() == coding::STATE_WORDS
+        && calls.len() == CALL_WORDS * n
+        && answers.len() == coding::ANSWER_WORDS * n
 }
 
 // Calls played one after another, each with its answer's words: refusals 2, 4, then 4, 2 of the state.
@@ -126,24 +108,22 @@ pub fn run(
     memory: &mut [u8],
     calls: &[u64],
     answers: &mut [u64],
-) -> u64
-    ensures { (done result state.new bytes.new memory.new, answers.new) ≡ tag_run state.old bytes.old memory.old calls.now answers.old }
+) -> Result<(), Refusal>
+    ensures { (done (given_done result) state.new bytes.new memory.new, answers.new) ≡ tag_run state.old bytes.old memory.old calls.now answers.old }
 {
     if !lengths_fit(state, calls, answers) {
-        return harness::refused(2);
+        return Err(Refusal::OtherLength);
     }
-    let given = coding::decode(state);
-    if !given.coded {
-        return harness::refused(4);
-    }
-    let s = given.state;
+    let Some(s) = coding::decode(state) else {
+        return Err(Refusal::BrokenState);
+    };
     if !s.whole() {
-        return harness::refused(4);
+        return Err(Refusal::BrokenState);
     }
     if !step::lengths_right(s.shape, bytes, memory) {
-        return harness::refused(2);
+        return Err(Refusal::OtherLength);
     }
     let after = run_calls(s, bytes, memory, calls, answers);
     coding::encode(after, state);
-    0
+    Ok(())
 }

@@ -1,23 +1,19 @@
--- `codes_lines` meets its contract. The invariant: each of the first i lines is below 4,294,967,296.
-use mathlib.Core.Path.{◌≡◌, sym}
-use Prim.Native.Nat.{◌+◌}
-use lib.ListN.{get_or}
-use borrow.Author.Tests.{le-ltb, lt-ltb}
-use Rattle.laws.proofs.Scan.{all-zero, all_more, all-fails}
+-- `codes_lines` meets its contract: its test of each word is the definition's.
+use borrow.Author.Rules.{rules}
+use mathlib.Core.Path.{◌∙◌}
+use lib.Dec.{ltb}
 use native.Mathlib.Omega.{arith}
+use Rattle.std.proofs.Common.{tests}
+use Rattle.std.proofs.lemmas.Iterator.{YieldsList-from_slice}
+use Rattle.std.proofs.lemmas.Iterator.Search.{all_from_yields_List}
+use Rattle.laws.specs.Bytes.{part}
+use Rattle.geometry.specs.TagMemory.{values}
+use Rattle.coding.proofs.Turns.{all-part}
 use Rattle.coding.proofs.codes_lines.Goals as goal
 
-pub loop-i-init : goal.loop-i-init
-loop-i-init c = (omega arith, all-zero _)
-
-pub returns-then-words-i-ge-BITS_32 : goal.returns-then-words-i-ge-BITS_32
-returns-then-words-i-ge-BITS_32 c =
-    sym (all-fails _ 64 c.loop-i.i (omega arith) (le-ltb (get_or c.args.words.now (4 + c.loop-i.i) 0) 4294967296 (omega arith)))
-
-pub loop-i-preserved : goal.loop-i-preserved
-loop-i-preserved c =
-    (omega arith, all_more _ c.loop-i.i c.loop-i.invariant.1 (lt-ltb (get_or c.args.words.now (4 + c.loop-i.i) 0) 4294967296 (omega arith)))
-
 pub returns : goal.returns
+unfolding part
 returns c =
-    let e : c.loop-i.i ≡ 64 = omega arith in sym (rw e at c.loop-i.invariant.1)
+    let w = c.args.words.now in
+    all_from_yields_List (λ x. ltb x values) _ _ _ c.all.ensures.ran (YieldsList-from_slice (part w 4 64) cc) (λ x b q k. search (rules, tests))
+    ∙ all-part (λ x. ltb x values) w 4 64 (omega (arith, c.requires))

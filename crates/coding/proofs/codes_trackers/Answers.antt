@@ -5,16 +5,15 @@ use native.Mathlib.Omega.{arith}
 use Rattle.coding.proofs.codes_trackers.Goals as goal
 
 pub loop-x-init : goal.loop-x-init
-loop-x-init c = (omega arith, all-zero _)
+loop-x-init c = all-zero _
 
 pub loop-x-preserved : goal.loop-x-preserved
-loop-x-preserved c =
-    (omega arith, all_more _ c.loop-x.x c.loop-x.invariant.1 (sym c.codes_tracker.ensures ∙ c.if-codes_tracker.true))
+loop-x-preserved c = all_more _ c.loop-x.x c.loop-x.invariant (sym c.codes_tracker.ensures ∙ c.if-not-codes_tracker.false)
 
-pub returns-else-codes_tracker : goal.returns-else-codes_tracker
-returns-else-codes_tracker c =
-    sym (all-fails _ 8 c.loop-x.x (omega arith) (sym c.codes_tracker.ensures ∙ c.if-codes_tracker.false))
+pub returns-then-not-codes_tracker : goal.returns-then-not-codes_tracker
+returns-then-not-codes_tracker c =
+    sym (all-fails _ 8 c.loop-x.x (omega arith) (sym c.codes_tracker.ensures ∙ c.if-not-codes_tracker.true))
 
 pub returns : goal.returns
 returns c =
-    let e : c.loop-x.x ≡ 8 = omega arith in sym (rw e at c.loop-x.invariant.1)
+    let e : c.loop-x.x ≡ 8 = omega arith in sym (rw e at c.loop-x.invariant)

@@ -1,14 +1,11 @@
 -- `encode` meets its contract: the parts of the coding, one after the other.
 use borrow.Author.Rules.{rules}
-use mathlib.Core.Path.{◌≡◌, refl, ◌∙◌}
-use borrow.Author.Tests.{eq-eqb, ne_eqb}
+use mathlib.Core.Path.{◌≡◌, ◌∙◌}
+use borrow.Author.Tests.{eq-eqb}
 use lib.ListN.{length}
 use Rattle.cache.specs.Seen.{seen}
 use Rattle.coding.proofs.Turns.{encoded}
 use Rattle.coding.proofs.encode.Goals as goal
-
-pub returns-then-words-ne-STATE_WORDS : goal.returns-then-words-ne-STATE_WORDS
-returns-then-words-ne-STATE_WORDS c = rw (ne_eqb _ _ c.if-words-ne-STATE_WORDS.true) refl
 
 pub returns : goal.returns
 returns c =

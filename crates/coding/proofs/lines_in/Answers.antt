@@ -1,6 +1,6 @@
 -- `lines_in` meets its contract. The invariant: the first i lines are the first i words of them.
 use mathlib.Core.Path.{◌≡◌, refl, sym, ap, ◌∙◌}
-use lib.ListN.{replicate, length-set}
+use lib.ListN.{replicate}
 use Rattle.laws.specs.Bytes.{splice}
 use Rattle.laws.proofs.Parts.{part_none}
 use Rattle.laws.proofs.Writes.{splice-none}
@@ -9,25 +9,23 @@ use native.Mathlib.Omega.{arith}
 use Rattle.coding.proofs.lines_in.Goals as goal
 
 pub loop-i-init : goal.loop-i-init
-loop-i-init c = (omega arith, refl, sym (ap (splice (replicate 64 0) 0) (part_none c.args.words.now 4) ∙ splice-none (replicate 64 0) 0))
+loop-i-init c = sym (ap (splice (replicate 64 0) 0) (part_none c.args.words.now 4) ∙ splice-none (replicate 64 0) 0)
 
 pub bounds-words-i : goal.bounds-words-i
-bounds-words-i c =
-    omega (arith, (coding c.args.words.now c.requires).size)
+bounds-words-i c = omega (arith, (coding c.args.words.now c.requires).size)
 
-pub overflow_cast-lines : goal.overflow_cast-lines
-overflow_cast-lines c =
-    omega (arith, (coding c.args.words.now c.requires).lines c.loop-i.i (omega arith))
+pub overflow_cast-line : goal.overflow_cast-line
+overflow_cast-line c = omega (arith, (coding c.args.words.now c.requires).lines c.loop-i.i c.loop-i-test.true)
 
 pub loop-i-preserved : goal.loop-i-preserved
 loop-i-preserved c =
     let w = c.args.words.now in
     let q = (coding w c.requires).size in
-    (omega arith, simp length-set (omega arith), rw c.loop-i.invariant.2 (line_read (replicate 64 0) w refl (omega arith) c.loop-i.i (omega arith)))
+    rw c.loop-i.invariant (line_read (replicate 64 0) w refl (omega arith) c.loop-i.i c.loop-i-test.true)
 
 pub returns : goal.returns
 returns c =
     let w = c.args.words.now in
     let q = (coding w c.requires).size in
     let e : c.loop-i.i ≡ 64 = omega arith in
-    rw e at c.loop-i.invariant.2 ∙ lines-read (replicate 64 0) w refl (omega arith)
+    rw e at c.loop-i.invariant ∙ lines-read (replicate 64 0) w refl (omega arith)

@@ -1,6 +1,6 @@
 -- `put_trackers` meets its contract. The invariant: the words of the first x trackers are written.
 use borrow.Author.Rules.{rules}
-use mathlib.Core.Path.{◌≡◌, refl, sym, ◌∙◌}
+use mathlib.Core.Path.{◌≡◌, sym, ◌∙◌}
 use lib.ListN.{length}
 use Rattle.laws.proofs.Writes.{splice-none}
 use Rattle.coding.specs.Words.{trackers_coded}
@@ -10,22 +10,16 @@ use Rattle.coding.proofs.put_trackers.Goals as goal
 
 pub loop-x-init : goal.loop-x-init
 unfolding trackers_coded
-loop-x-init c =
-    (omega arith, refl, sym (splice-none c.args.words.now 68))
+loop-x-init c = sym (splice-none c.args.words.now 68)
 
 pub loop-x-preserved : goal.loop-x-preserved
 loop-x-preserved c =
     let a = c.args in
     let k : length a.trackers ≡ 8 = search rules in
-    let l = c.loop-x in
-    (omega arith, search rules, c.put_tracker.ensures ∙ rw l.invariant.2 (tracker-written a.words.now a.trackers c.requires k l.x (omega arith)))
-
-pub shape_of-words : goal.shape_of-words
-shape_of-words c =
-    c.loop-x.invariant.1
+    c.put_tracker.ensures ∙ rw c.loop-x.invariant (tracker-written a.words.now a.trackers c.requires k c.loop-x.x (omega arith))
 
 pub returns : goal.returns
 returns c =
     let a = c.args in
     let k : length a.trackers ≡ 8 = search rules in
-    (c.loop-x.invariant.2 ∙ trackers-written a.words.now a.trackers c.requires k c.loop-x.x (omega arith), k)
+    (c.loop-x.invariant ∙ trackers-written a.words.now a.trackers c.requires k c.loop-x.x (omega arith), k)

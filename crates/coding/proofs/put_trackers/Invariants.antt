@@ -1,13 +1,9 @@
 -- `put_trackers` meets its contract. The invariant: the words of the first x trackers are written.
 use mathlib.Core.Path.{◌≡◌}
-use Prim.Native.Nat.{◌≤◌, ◌-◌}
-use lib.ListN.{length, take}
+use lib.ListN.{take}
 use Rattle.laws.specs.Bytes.{splice}
 use Rattle.coding.specs.Words.{trackers_coded}
 use Rattle.coding.proofs.put_trackers.Given as goal
 
 abbrev pub invariant-loop-x : goal.invariant-loop-x
-invariant-loop-x l = (l.x ≤ 8) × (length l.words ≡ length l.initial.words) × (l.words ≡ splice l.initial.words 68 (trackers_coded (take l.x l.trackers)))
-
-abbrev pub decreases-loop-x : goal.decreases-loop-x
-decreases-loop-x l = 8 - l.x
+invariant-loop-x l = l.words ≡ splice l.initial.words 68 (trackers_coded (take l.x l.tracker-items))

@@ -1,25 +1,36 @@
 -- `drain` meets its contract: the words code a state, then the rules' own call.
-use mathlib.Core.Path.{sym, ◌∙◌}
-use Rattle.rules.specs.Calls.{drain}
-use borrow.Author.Tests.{not-true, not-false}
-use Rattle.harness.proofs.Ways.{words-2, words-4, called-no, called-does, refuses}
+use mathlib.Core.Path.{refl, ap, ◌∙◌}
 use native.Mathlib.Omega.{arith}
+use Rattle.std.proofs.lemmas.Result.{err_from_is_err_and}
+use Rattle.rules.specs.Calls.{Out, drain}
+use Rattle.tracker.specs.Answer.{says}
+use Rattle.cache.specs.Seen.{seen}
+use Rattle.harness.proofs.Named.{drain-told}
+use Rattle.harness.proofs.Ways.{called-refused, called-does, given-no, given_is}
 use Rattle.harness.proofs.drain.Goals as goal
 
-pub returns-then-state-ne-STATE_WORDS : goal.returns-then-state-ne-STATE_WORDS
-returns-then-state-ne-STATE_WORDS c =
+pub returns-in_err-s : goal.returns-in_err-s
+returns-in_err-s c =
     let a = c.args in
-    refuses 2 a.state.now a.bytes.now a.memory.now c.refused.ensures
-    ∙ sym (called-no (λ s. drain s a.bytes.now a.memory.now) a.state.now a.bytes.now a.memory.now 2 (words-2 a.state.now c.if-state-ne-STATE_WORDS.true) (omega arith))
+    let p = err_from_is_err_and c.from_residual.result c.from_residual.ensures.1 in rw (p.1, p.2)
+    (called-refused (λ s. drain s a.bytes.now a.memory.now) a.state.now a.bytes.now a.memory.now c.in_err-s.field-0.0 c.in_err-s.ensures.refusals)
 
-pub returns-then-not-given : goal.returns-then-not-given
-returns-then-not-given c =
+pub leave-requires : goal.leave-requires
+leave-requires c =
     let a = c.args in
-    refuses 4 a.state.now a.bytes.now a.memory.now c.refused-then-not-given.ensures
-    ∙ sym (called-no (λ s. drain s a.bytes.now a.memory.now) a.state.now a.bytes.now a.memory.now 4 (words-4 a.state.now c.if-state-ne-STATE_WORDS.false (sym c.decode-given.ensures.0 ∙ not-true _ c.if-not-given.true)) (omega arith))
+    rw (ap (λ (o : Out). o.said) c.drain-r.ensures) (drain-told (seen c.in_ok-s.s) a.bytes.now a.memory.now)
+
+pub returns-in_err-leave : goal.returns-in_err-leave
+returns-in_err-leave c =
+    let a = c.args in
+    let r = c.drain-r.result in
+    let p = err_from_is_err_and c.from_residual-in_err-leave.result c.from_residual-in_err-leave.ensures.1 in rw (p.1, p.2)
+    (called-does _ (seen c.in_ok-s.s) a.state.now c.in_ok-s.ensures.refusals c.in_ok-s.ensures.state
+    (λ s. drain s a.bytes.now a.memory.now) a.bytes.now a.memory.now c.drain-r.ensures (given-no (says r.answer) r.transfers c.in_err-leave.ensures.0 (omega arith)) c.in_err-leave.ensures.1)
 
 pub returns : goal.returns
 returns c =
     let a = c.args in
-    called-does _ _ a.state.now c.if-state-ne-STATE_WORDS.false (sym c.decode-given.ensures.0 ∙ not-false _ c.if-not-given.false) c.decode-given.ensures.1
-    (λ s. drain s a.bytes.now a.memory.now) a.bytes.now a.memory.now c.drain-r.ensures c.leave.ensures.0 c.leave.ensures.1
+    let r = c.drain-r.result in
+    called-does _ (seen c.in_ok-s.s) a.state.now c.in_ok-s.ensures.refusals c.in_ok-s.ensures.state
+    (λ s. drain s a.bytes.now a.memory.now) a.bytes.now a.memory.now c.drain-r.ensures (c.from.ensures ∙ given_is (says r.answer) r.transfers c.in_ok-leave.ensures.0 refl) c.in_ok-leave.ensures.1

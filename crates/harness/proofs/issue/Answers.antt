@@ -1,28 +1,32 @@
 -- `issue` meets its contract: the words code a state, then the rules' own call.
-use mathlib.Core.Path.{sym, ap, ◌∙◌}
-use Rattle.rules.specs.Calls.{issue}
-use borrow.Author.Tests.{not-true, not-false}
+use mathlib.Core.Path.{ap, ◌∙◌}
+use Rattle.std.proofs.lemmas.Result.{err_from_is_err_and}
 use Rattle.tracker.specs.declared.Access.{Access}
+use Rattle.rules.specs.Calls.{Out, issue}
 use Rattle.cache.specs.Seen.{seen}
 use Rattle.harness.specs.Calls.{access_of}
-use Rattle.harness.proofs.Ways.{words-2, words-4, called-no, called-does, issue-wide, refuses}
-use native.Mathlib.Omega.{arith}
+use Rattle.harness.proofs.Back.{issue-back}
+use Rattle.harness.proofs.Named.{issue-told}
+use Rattle.harness.proofs.Ways.{called-refused, called-does, issue-wide, given-none}
 use Rattle.harness.proofs.issue.Goals as goal
 
-pub returns-then-state-ne-STATE_WORDS : goal.returns-then-state-ne-STATE_WORDS
-returns-then-state-ne-STATE_WORDS c =
+pub returns-in_err-s : goal.returns-in_err-s
+returns-in_err-s c =
     let a = c.args in
-    refuses 2 a.state.now a.bytes.now a.memory.now c.refused.ensures
-    ∙ sym (called-no (λ s. issue s a.bytes.now a.memory.now a.x (access_of a.write a.bottom a.g a.v)) a.state.now a.bytes.now a.memory.now 2 (words-2 a.state.now c.if-state-ne-STATE_WORDS.true) (omega arith))
+    let p = err_from_is_err_and c.from_residual.result c.from_residual.ensures.1 in rw (p.1, p.2)
+    (called-refused (λ s. issue s a.bytes.now a.memory.now a.x (access_of a.write a.bottom a.g a.v)) a.state.now a.bytes.now a.memory.now c.in_err-s.field-0.0 c.in_err-s.ensures.refusals)
 
-pub returns-then-not-given : goal.returns-then-not-given
-returns-then-not-given c =
+pub leave-requires : goal.leave-requires
+leave-requires c =
     let a = c.args in
-    refuses 4 a.state.now a.bytes.now a.memory.now c.refused-then-not-given.ensures
-    ∙ sym (called-no (λ s. issue s a.bytes.now a.memory.now a.x (access_of a.write a.bottom a.g a.v)) a.state.now a.bytes.now a.memory.now 4 (words-4 a.state.now c.if-state-ne-STATE_WORDS.false (sym c.decode-given.ensures.0 ∙ not-true _ c.if-not-given.true)) (omega arith))
+    rw (ap (λ (o : Out). o.said) c.issue-r.ensures) (issue-told (seen c.in_ok-s.s) a.bytes.now a.memory.now a.x c.access_of.result)
 
 pub returns : goal.returns
 returns c =
     let a = c.args in
-    called-does _ _ a.state.now c.if-state-ne-STATE_WORDS.false (sym c.decode-given.ensures.0 ∙ not-false _ c.if-not-given.false) c.decode-given.ensures.1
-    (λ s. issue s a.bytes.now a.memory.now a.x (access_of a.write a.bottom a.g a.v)) a.bytes.now a.memory.now (c.issue-r.ensures ∙ ap (λ (y : Access). issue (seen c.decode-given.result.state) a.bytes.now a.memory.now a.x y) c.access_of-access.ensures ∙ issue-wide (seen c.decode-given.result.state) a.bytes.now a.memory.now a.x a.write a.bottom a.v a.g) c.leave.ensures.0 c.leave.ensures.1
+    let s = seen c.in_ok-s.s in
+    let none = ap (λ (o : Out). o.transfers.back) c.issue-r.ensures ∙ issue-back s a.bytes.now a.memory.now a.x c.access_of.result in
+    called-does _ s a.state.now c.in_ok-s.ensures.refusals c.in_ok-s.ensures.state
+    (λ s. issue s a.bytes.now a.memory.now a.x (access_of a.write a.bottom a.g a.v)) a.bytes.now a.memory.now
+    (c.issue-r.ensures ∙ ap (λ (y : Access). issue s a.bytes.now a.memory.now a.x y) c.access_of.ensures ∙ issue-wide s a.bytes.now a.memory.now a.x a.write a.bottom a.v a.g)
+    (c.leave.ensures.0 ∙ given-none _ c.issue-r.result.transfers none) c.leave.ensures.1

@@ -1,25 +1,19 @@
 -- `show` meets its contract: the words code a state, then where that shows the leaf.
 use mathlib.Core.Path.{sym, ap, ◌∙◌}
-use borrow.Author.Tests.{not-true, not-false}
+use Rattle.std.proofs.lemmas.Result.{err_from_is_err_and}
 use Rattle.rules.specs.State.{State}
 use Rattle.harness.specs.Calls.{shown_at}
-use Rattle.harness.proofs.Ways.{words-2, words-4, words-0, show-no, show-is, decoded-is}
-use native.Mathlib.Omega.{arith}
+use Rattle.harness.proofs.Ways.{show-no, show-is}
 use Rattle.harness.proofs.show.Goals as goal
 
-pub returns-then-state-ne-STATE_WORDS : goal.returns-then-state-ne-STATE_WORDS
-returns-then-state-ne-STATE_WORDS c =
+pub returns-in_err-state_in : goal.returns-in_err-state_in
+returns-in_err-state_in c =
     let a = c.args in
-    c.refused.ensures ∙ sym (show-no a.state.now a.bytes.now a.memory.now a.k 2 (words-2 a.state.now c.if-state-ne-STATE_WORDS.true) (omega arith))
-
-pub returns-then-not-given : goal.returns-then-not-given
-returns-then-not-given c =
-    let a = c.args in
-    c.refused-then-not-given.ensures ∙ sym (show-no a.state.now a.bytes.now a.memory.now a.k 4 (words-4 a.state.now c.if-state-ne-STATE_WORDS.false (sym c.decode-given.ensures.0 ∙ not-true _ c.if-not-given.true)) (omega arith))
+    let p = err_from_is_err_and c.from_residual.result c.from_residual.ensures.1 in rw (p.1, p.2)
+    (show-no a.state.now a.bytes.now a.memory.now a.k c.in_err-state_in.field-0.0 c.in_err-state_in.ensures.refusals)
 
 pub returns : goal.returns
 returns c =
     let a = c.args in
-    let q = sym c.decode-given.ensures.0 ∙ not-false _ c.if-not-given.false in
-    c.shown_at.ensures ∙ ap (λ (s : State). shown_at s a.bytes.now a.memory.now a.k) (decoded-is a.state.now q c.decode-given.ensures.1)
-    ∙ sym (show-is a.state.now a.bytes.now a.memory.now a.k (words-0 a.state.now c.if-state-ne-STATE_WORDS.false q))
+    c.shown_at.ensures ∙ ap (λ (s : State). shown_at s a.bytes.now a.memory.now a.k) c.in_ok-state_in.ensures.state
+    ∙ sym (show-is a.state.now a.bytes.now a.memory.now a.k c.in_ok-state_in.ensures.refusals)

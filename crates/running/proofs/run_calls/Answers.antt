@@ -1,6 +1,6 @@
 -- `run_calls` meets its contract: between two calls, what is done is the first of them (Going).
 use borrow.Author.Rules.{rules}
-use mathlib.Core.Path.{refl, ◌∙◌}
+use mathlib.Core.Path.{◌∙◌}
 use Prim.Native.Nat.{◌<◌}
 use native.Mathlib.Omega.{arith}
 use Rattle.running.proofs.Going.{going_start, going-call, going-named, going-stops}
@@ -8,7 +8,7 @@ use Rattle.running.proofs.run_calls.Goals as goal
 
 pub loop-i-init : goal.loop-i-init
 loop-i-init c =
-    (going_start _ _ _ _ _ _ _ c.row-lines.ensures.0 c.table-trackers.ensures.0 c.requires.0 c.requires.1, omega arith, c.row-lines.ensures.1, c.table-trackers.ensures.1, refl, refl, refl)
+    (going_start _ _ _ _ _ _ _ c.row-lines.ensures.0 c.table-trackers.ensures.0 c.requires.0 c.requires.1, c.row-lines.ensures.1, c.table-trackers.ensures.1)
 
 pub offset_bounds-trackers-x : goal.offset_bounds-trackers-x
 offset_bounds-trackers-x c =
@@ -31,32 +31,17 @@ bounds-trackers-x-in-loop-i c =
     omega (arith, name_in)
 
 pub put_at-requires : goal.put_at-requires
-put_at-requires c =
-    omega (arith, c.loop-i-test.true, c.loop-i.invariant.6, c.requires.2)
-
-pub overflow_add-i : goal.overflow_add-i
-overflow_add-i c =
-    let fits : c.loop-i.i < 18446744073709551615 = omega (arith, c.loop-i-test.true) in
-    omega (arith, fits)
-
-pub loop-i-smaller : goal.loop-i-smaller
-loop-i-smaller c =
-    omega (arith, c.loop-i-test.true)
+put_at-requires c = omega (arith, c.loop-i-test.true, c.loop-i.auto.answers, c.requires.2)
 
 pub loop-i-preserved : goal.loop-i-preserved
 loop-i-preserved c =
-    let k = c.loop-i in
-    let lent = c.take-r.auto in (
+    let k = c.loop-i in (
       going-call _ _ _ _ _ _ _ _ c.take-r.result k.invariant.0 c.asked_in-a.ensures c.named-x.ensures c.take-r.ensures c.put_at.ensures,
-      omega (arith, c.loop-i-test.true),
-      lent.lines ∙ k.invariant.2,
+      c.take-r.auto.lines ∙ k.invariant.1,
       search rules,
-      lent.bytes ∙ k.invariant.4,
-      lent.memory ∙ k.invariant.5,
-      c.put_at.auto.answers ∙ k.invariant.6,
     )
 
 pub returns : goal.returns
 returns c =
     let k = c.loop-i in
-    going-stops _ _ _ _ _ _ _ _ c.row-lines.ensures.0 c.table-trackers.ensures.0 k.invariant.0 (omega (arith, k.invariant.1, c.loop-i-test.false))
+    going-stops _ _ _ _ _ _ _ _ c.row-lines.ensures.0 c.table-trackers.ensures.0 k.invariant.0 (omega (arith, c.loop-i-test.false, k.auto.i-end))
