@@ -173,7 +173,7 @@ module _ (t : ℕ) (k : Kept) (B : Begun t k) where
       let Z = plays-becomes k1 number input output (subst (λ (z : Kept). both (whole z.state) (lengths_right z.state.shape z.bytes z.memory) ≡ true) (sym q)
       (both_true _ _ R.ok-still.is_whole R.ok-still.right)) in
       let new = asked follows (length input) input (starts k1 number output) in
-      more k1 (kept_of r.state b' m') number r.number lines new text (take r.written output') P (asked-fit follows (length input) input (starts k1 number output))
+      more k1 (kept_of r.state b' m') number r.place.number lines new text (take r.place.written output') P (asked-fit follows (length input) input (starts k1 number output))
       (ap (λ (z : Played). z.kept) d ∙ Z.kept) (ap (λ (z : Played). z.number) d ∙ Z.number)
       (ap (λ (z : Played). take z.written z.output) d ∙ in-front (plays k1 number input output) output (text_by follows number k1 new) Z.written Z.output)
 

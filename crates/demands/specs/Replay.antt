@@ -51,7 +51,7 @@ pub data Replays (s0 : State) (b0 m0 : List ℕ) : State → (b m : List ℕ) (n
   begun : Replays s0 b0 m0 s0 b0 m0 1 [] []
   chunk : {s : State} {b m : List ℕ} {number : ℕ} {lines : List Asks} {text : List ℕ} → Replays s0 b0 m0 s b m number lines text
       → (input output output' b' m' : List ℕ) (r : Played) → left r b' m' output' ≡ plays (kept_of s b m) number input output
-      → Replays s0 b0 m0 r.state b' m' r.number (lines ++ asked follows (length input) input (starts (kept_of s b m) number output)) (text ++ take r.written output')
+      → Replays s0 b0 m0 r.state b' m' r.place.number (lines ++ asked follows (length input) input (starts (kept_of s b m) number output)) (text ++ take r.place.written output')
 
 abbrev pub ReplayPrints : Type 0
 ReplayPrints = (t : ℕ) (s s' : State) (b m b' m' : List ℕ) (number : ℕ) (lines : List Asks) (text : List ℕ) → Starts t s b m → Replays s b m s' b' m' number lines text

@@ -60,16 +60,33 @@ fn bytes_cut(l: usize, bytes: &[u8]) -> usize
 }
 
 // The lines after an accepted line 1, on as much of the bytes and of the memory as the state's shape takes.
-fn later(state: State, number: u64, input: &[u8], bytes: &mut [u8], memory: &mut [u8], output: &mut [u8]) -> Played {
+fn later(
+    state: State,
+    number: u64,
+    input: &[u8],
+    bytes: &mut [u8],
+    memory: &mut [u8],
+    output: &mut [u8],
+) -> Played {
     let b = bytes_cut(state.shape.l, bytes);
     let m = memory_cut(state.shape.n, memory);
-    play::play(state, number, input, &mut bytes[..b], &mut memory[..m], output)
+    play::play(
+        state,
+        number,
+        input,
+        &mut bytes[..b],
+        &mut memory[..m],
+        output,
+    )
 }
 
 impl Replay {
     // The output's first bytes go out.
     fn write(&mut self, written: usize) {
-        self.open = self.to.write_all(&self.output[..written.min(LARGE)]).is_ok();
+        self.open = self
+            .to
+            .write_all(&self.output[..written.min(LARGE)])
+            .is_ok();
     }
 
     // Line 1, where it ends in the chunk; gives how many bytes are done.
@@ -114,7 +131,13 @@ impl Replay {
                 p.taken
             }
             Stage::Accepted(state, number) => {
-                let Replay { input, output, bytes, memory, .. } = self;
+                let Replay {
+                    input,
+                    output,
+                    bytes,
+                    memory,
+                    ..
+                } = self;
                 let p = later(state, number, &input[from..end], bytes, memory, output);
                 self.stage = Stage::Accepted(p.state, p.place.number);
                 self.write(p.place.written);
