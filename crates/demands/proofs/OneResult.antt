@@ -46,7 +46,7 @@ use Rattle.play.proofs.begin.Reads as begin
 use Rattle.demands.specs.Demand1.{OfAnyTwo, OfAny}
 
 pub one-plain-reading : OfAnyTwo plain-reading-kinds.ps plain-reading-kinds.r plain-reading.Post (λ κs x y s t. x ≡ y)
-one-plain-reading κs a x y s t p q = given-one x y p.fits q.fits (p.told ∙ sym q.told)
+one-plain-reading κs a x y s t p q = given-one x y p.1 q.1 (p.0 ∙ sym q.0)
 
 pub one-fresh : OfAnyTwo fresh-kinds.ps fresh-kinds.r fresh.Post (λ κs x y s t. (x ≡ y) × (s.1.1.1.1.0.now ≡ t.1.1.1.1.0.now))
 one-fresh κs a x y s t p q = (did-one x y _ _ _ _ (p ∙ sym q), memory-one x y _ _ _ _ (p ∙ sym q))
@@ -94,7 +94,7 @@ one-refuse-chunk κs a x y s t p q = one-refuse-all _ _ _ x y _ _ p q
 
 -- What the demands say of plain reading, of images and of a chunk of a script is said of these calls: the equation is the contract's own.
 pub plain-reading-is : OfAny plain-reading-kinds.ps plain-reading-kinds.r plain-reading.Post (λ κs a x s. given x ≡ plain_reading a.0 a.1.0.now a.1.1.0)
-plain-reading-is κs a x s p = p.told
+plain-reading-is κs a x s p = p.0
 
 pub image-test-is : OfAny image-test-kinds.ps image-test-kinds.r image-test.Post (λ κs a x s. refused_with x ≡ image_test a.0.now)
 image-test-is κs a x s p = p
