@@ -3,7 +3,6 @@
 #![tactic(auto)]
 
 ghost use Rattle.std.specs.Prelude.{◌≡◌};
-ghost use Rattle.laws.specs.Choice.{both, either};
 ghost use Rattle.laws.specs.Refusal.{number, refused_with, given, given_done};
 
 // What a call is refused for: 01 "What is refused", and 02. Each has the paper's number.
@@ -72,18 +71,4 @@ pub fn refused_with(told: Result<(), Refusal>) -> u64
     ensures { result ≡ refused_with told }
 {
     told.err().map_or(0, |r| r as u64)
-}
-
-// Both hold.
-pub fn both(a: bool, b: bool) -> bool
-    ensures { result ≡ both a b }
-{
-    if a { b } else { false }
-}
-
-// One of the two holds.
-pub fn either(a: bool, b: bool) -> bool
-    ensures { result ≡ either a b }
-{
-    if a { true } else { b }
 }

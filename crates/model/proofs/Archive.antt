@@ -1,5 +1,5 @@
 -- The laws of the archive's calls: what a call's result is as a number, and each way out of opening a reader and of reading a record.
-use Rattle.std.proofs.Common.{◌≡◌, ℕ, ◌+◌, List, [], ◌∷◌, length, replicate, eqb, Result, Ok, Err, Option, Some, None, refl, ap, sym, ◌∙◌, arith, eq-eqb, ne_eqb}
+use Rattle.std.proofs.Common.{◌≡◌, ℕ, ◌+◌, List, [], ◌∷◌, length, replicate, eqb, Result, Ok, Err, Some, None, refl, ap, sym, ◌∙◌, arith, eq-eqb, ne_eqb}
 use Rattle.laws.specs.declared.Refusal.{Refusal}
 use Rattle.laws.specs.Choice.{pick}
 use Rattle.laws.specs.Refusal.{number, refused_with, given_done, refusal, unless}
