@@ -73,7 +73,7 @@ impl State {
     {
         Out {
             state: self,
-            answer: Answer::No(u8::from(r)),
+            answer: Answer::No(r),
             transfers: Transfers::none(),
         }
     }

@@ -1,6 +1,8 @@
 -- Each call of 01 has one result, by its own contract: the answer and what it leaves equal a definition.
 use mathlib.Core.Path.{◌≡◌, sym, ◌∙◌}
 use lib.ListN.{length}
+use Prim.Native.Nat.{◌<◌}
+use Rattle.std.specs.Prelude.{IfOk}
 use Rattle.laws.specs.Refusal.{refused_with, given}
 use Rattle.laws.proofs.Told.{given-one, refused-one}
 use Rattle.memory.specs.PlainReading.{plain_reading}
@@ -93,8 +95,9 @@ pub one-refuse-chunk : OfAnyTwo refuse-all-kinds.ps refuse-all-kinds.r refuse-al
 one-refuse-chunk κs a x y s t p q = one-refuse-all _ _ _ x y _ _ p q
 
 -- What the demands say of plain reading, of images and of a chunk of a script is said of these calls: the equation is the contract's own.
-pub plain-reading-is : OfAny plain-reading-kinds.ps plain-reading-kinds.r plain-reading.Post (λ κs a x s. given x ≡ plain_reading a.0 a.1.0.now a.1.1.0)
-plain-reading-is κs a x s p = p.0
+pub plain-reading-is : OfAny plain-reading-kinds.ps plain-reading-kinds.r plain-reading.Post
+    (λ κs a x s. (given x ≡ plain_reading a.0 a.1.0.now a.1.1.0) × IfOk x (λ v. v < 4294967296))
+plain-reading-is κs a x s p = p
 
 pub image-test-is : OfAny image-test-kinds.ps image-test-kinds.r image-test.Post (λ κs a x s. refused_with x ≡ image_test a.0.now)
 image-test-is κs a x s p = p

@@ -1,5 +1,4 @@
 pub mod Back
-pub mod Named
 pub mod Ways
 pub mod Unchanged
 pub mod Shown

@@ -34,7 +34,7 @@ use Rattle.cache.proofs.Refusals.{issue-unfit, issue-fit, issue-refused, fit-who
 use Rattle.coding.specs.Words.{state_words, coded, decoded, codes}
 use Rattle.coding.specs.Seen.{is_coded, coded_state}
 use Rattle.coding.specs.Answer.{refused_by, number_of, answer_words, answer_coded}
-use Rattle.harness.proofs.Back.{number-pos}
+use Rattle.laws.proofs.Told.{number-some}
 use Rattle.harness.specs.Calls.{Done, number_given, done, refused, gives, step_gives, device_words, begin_tests, begins, word_tests, called, access_of, step_tests, tag_step, shown_at, tag_show, tag_whole}
 
 -- the words that a call leaves where there are as many as a state has
@@ -64,7 +64,7 @@ module _ (device w : List ℕ) where
 module _ (f : ℕ → ℕ → ℕ → Out) (device w bytes memory : List ℕ) where
   pub begins-refused : (r : Refusal) → number r ≡ refusal (begin_tests device w) → done (refused_by (number r)) w bytes memory ≡ begins f device w bytes memory
   unfolding begins
-  begins-refused r e = rw (← e) (sym (unless-no _ _ (number-pos r)))
+  begins-refused r e = rw (← e) (sym (unless-no _ _ (number-some r)))
 
   begins-is : 0 ≡ refusal (begin_tests device w) → begins f device w bytes memory ≡ gives (f (get_or device 0 0) (get_or device 1 0) (get_or device 2 0))
   unfolding begins
@@ -165,7 +165,7 @@ module _ (w bytes memory : List ℕ) (x : ℕ) (answer : List ℕ) where
 
     pub step-no : (r : Refusal) → number r ≡ refusal (word_tests w) → (done (refused_by (number r)) w bytes memory, answer) ≡ tag_step w bytes memory x answer
     unfolding tag_step
-    step-no r e = rw (step-words, ← e) (sym (unless-no _ _ (number-pos r)))
+    step-no r e = rw (step-words, ← e) (sym (unless-no _ _ (number-some r)))
 
     pub step_is : 0 ≡ refusal (word_tests w) → tag_step w bytes memory x answer ≡ step_gives (step (decoded w) bytes memory x) answer
     unfolding tag_step
@@ -175,7 +175,7 @@ module _ (w bytes memory : List ℕ) (x : ℕ) (answer : List ℕ) where
 module _ (w bytes memory : List ℕ) (k : ℕ) where
   pub show-no : (r : Refusal) → number r ≡ refusal (word_tests w) → refused_by (number r) ≡ tag_show w bytes memory k
   unfolding tag_show
-  show-no r e = rw (← e) (sym (unless-no _ refused_by (number-pos r)))
+  show-no r e = rw (← e) (sym (unless-no _ refused_by (number-some r)))
 
   pub show-is : 0 ≡ refusal (word_tests w) → tag_show w bytes memory k ≡ shown_at (decoded w) bytes memory k
   unfolding tag_show
@@ -247,7 +247,7 @@ module _ (o : Out) {k : ℕ} {r : List ℕ} where
 
 -- what a call on words that are refused leaves
 pub called-refused : (f : State → Out) (w bytes memory : List ℕ) (r : Refusal) → number r ≡ refusal (word_tests w) → done (refused_by (number r)) w bytes memory ≡ called f w bytes memory
-called-refused f w bytes memory r e = sym (called-no f w bytes memory (number r) (sym e) (number-pos r))
+called-refused f w bytes memory r e = sym (called-no f w bytes memory (number r) (sym e) (number-some r))
 
 -- the number of a call that writes nothing back
 pub given-none : (s : Said) (t : Transfers) → t.back ≡ 0 → number_of s ≡ number_given s t

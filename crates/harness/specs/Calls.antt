@@ -100,6 +100,10 @@ bytes_at bytes memory p = pick (eqb p 0) [] (pick (ltb p 1099511627776) (part by
 unfoldable pub tag_show : List ℕ → List ℕ → List ℕ → ℕ → ℕ
 tag_show w bytes memory k = unless (refusal (word_tests w)) (shown_at (decoded w) bytes memory k) refused_by
 
+-- the refusal of showing: 2, 4, then those of the state; 0 if none
+abbrev pub tag_show_no : List ℕ → List ℕ → List ℕ → ℕ → ℕ
+tag_show_no w bytes memory k = unless (refusal (word_tests w)) (show_no (decoded w) bytes memory k) (λ c. c)
+
 -- "`tag_whole` gives 1 or 0"
 unfoldable pub tag_whole : List ℕ → ℕ
 tag_whole w = unless (refusal ((eqb (length w) state_words, 2) ∷ [])) (one (both (codes w) (whole (decoded w)))) refused_by

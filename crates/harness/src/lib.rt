@@ -1,19 +1,17 @@
-// The calls of a licensee's harness: the state is lent as words, and each call gives 0, or what its comment says, or 4,294,967,296 plus the refusal.
+// The calls of a licensee's harness: the state is lent as words, and each call answers nothing, or what its comment says, or its refusal.
 // No public function has a `requires`: words, bytes and numbers can be anything. Refused, nothing changes but the words of a refused fresh or open.
 #![tactic(auto)]
 
-ghost use Rattle.std.specs.Prelude.{◌≡◌, ◌-◌, eqb, ltb, length, IfOk, slice_index};
+ghost use Rattle.std.specs.Prelude.{◌≡◌, ◌<◌, ◌-◌, eqb, ltb, length, IfOk, slice_index};
 ghost use Rattle.laws.specs.Choice.{pick};
-ghost use Rattle.laws.specs.Refusal.{number, refused_with, given, given_done, refusal};
-ghost use Rattle.laws.specs.declared.Refusal.{Refusal};
+ghost use Rattle.laws.specs.Refusal.{refused_with, given, given_done, refusal};
 ghost use Rattle.geometry.specs.TagMemory.{values};
 ghost use Rattle.tracker.specs.Answer.{says};
 ghost use Rattle.rules.specs.Calls.{show_no};
 ghost use Rattle.cache.specs.Seen.{seen};
 ghost use Rattle.coding.specs.Words.{state_words, coded, decoded};
 ghost use Rattle.coding.specs.Answer.{number_of};
-ghost use Rattle.harness.specs.Calls.{done, begin_tests, word_tests, tag_fresh, tag_open, access_of, tag_issue, tag_drain, tag_step, shown_at, tag_show, tag_whole, given_whether};
-ghost use Rattle.harness.specs.Told.{Told};
+ghost use Rattle.harness.specs.Calls.{done, begin_tests, word_tests, tag_fresh, tag_open, access_of, tag_issue, tag_drain, tag_step, shown_at, tag_show, tag_show_no, tag_whole, given_whether};
 
 use cache::{Out, State};
 use geometry::Geometry;
@@ -48,44 +46,18 @@ fn state_in(words: &[u64]) -> Result<State, Refusal>
     coding::decode(words).ok_or(Refusal::BrokenState)
 }
 
-// The refusal that has a number.
-// Kept: an answer carries the number (tracker `Answer::No`).
-fn refusal_of(c: u8) -> Refusal
-    requires { (r : Refusal) × (number r ≡ c) }
-    ensures { number result ≡ c }
-{
-    match c {
-        1 => Refusal::OutsideLimits,
-        2 => Refusal::OtherLength,
-        3 => Refusal::NotTrue,
-        4 => Refusal::BrokenState,
-        5 => Refusal::NoTracker,
-        6 => Refusal::NoGroup,
-        7 => Refusal::BusyTracker,
-        8 => Refusal::IdleTracker,
-        9 => Refusal::NoRoom,
-        10 => Refusal::WrongCheck,
-        11 => Refusal::OtherRule,
-        12 => Refusal::OtherForm,
-        13 => Refusal::SharedGroup,
-        _ => Refusal::OtherRun,
-    }
-}
-
 // The refusal of a call, if it is refused.
 fn told(answer: Answer) -> Result<(), Refusal>
-    requires { Told (says answer) }
     ensures { given_done result ≡ number_of (says answer) }
 {
     match answer {
-        Answer::No(c) => Err(refusal_of(c)),
+        Answer::No(r) => Err(r),
         _ => Ok(()),
     }
 }
 
 // The words of the state that a call hands back, and its refusal, if it is refused.
 fn leave(r: Out, state: &mut [u64]) -> Result<(), Refusal>
-    requires { Told (says r.answer) }
     ensures { (given_done result ≡ number_of (says r.answer)) × (state.new ≡ pick (eqb (length state.old) state_words) (coded (seen r.state)) state.old) }
 {
     coding::encode(r.state, state);
@@ -167,7 +139,8 @@ pub fn step(
 
 // The changed lines are written to memory and marked clean; the blocks written back: refusals 2, 4, then those of a drain.
 pub fn drain(state: &mut [u64], bytes: &[u8], memory: &mut [u8]) -> Result<u64, Refusal>
-    ensures { done (given result) state.new bytes.now memory.new ≡ tag_drain state.old bytes.now memory.old }
+    ensures told { done (given result) state.new bytes.now memory.new ≡ tag_drain state.old bytes.now memory.old }
+    ensures fits { IfOk result (λ v. v < 4294967296) }
 {
     let s = state_in(state)?;
     let r = s.drain(bytes, memory);
@@ -193,7 +166,8 @@ fn place_of<'a>(s: State, bytes: &'a [u8], memory: &'a [u8], k: u64) -> u64
 
 // Where a state shows leaf k.
 fn shown_at<'a>(s: State, bytes: &'a [u8], memory: &'a [u8], k: u64) -> Result<u64, Refusal>
-    ensures { given result ≡ shown_at (seen s) bytes.now memory.now k }
+    ensures told { given result ≡ shown_at (seen s) bytes.now memory.now k }
+    ensures refused { refused_with result ≡ show_no (seen s) bytes.now memory.now k }
 {
     s.can_show(bytes, memory, k)?;
     Ok(place_of(s, bytes, memory, k))
@@ -201,7 +175,8 @@ fn shown_at<'a>(s: State, bytes: &'a [u8], memory: &'a [u8], k: u64) -> Result<u
 
 // Where leaf k is shown: 0 for an empty part, else 1 plus its place in the line bytes, or IN_MEMORY plus 1 plus its place in memory. Refusals 2, 4, then those of showing.
 pub fn show<'a>(state: &[u64], bytes: &'a [u8], memory: &'a [u8], k: u64) -> Result<u64, Refusal>
-    ensures { given result ≡ tag_show state.now bytes.now memory.now k }
+    ensures told { given result ≡ tag_show state.now bytes.now memory.now k }
+    ensures refused { refused_with result ≡ tag_show_no state.now bytes.now memory.now k }
 {
     shown_at(state_in(state)?, bytes, memory, k)
 }

@@ -9,7 +9,8 @@ use lib.Dec.{eqb}
 use Rattle.laws.specs.Choice.{pick}
 use Rattle.laws.specs.Refusal.{number, refused_with, given}
 
-named : ℕ → Refusal
+-- the refusal that has a number, where one has it
+unfoldable pub named : ℕ → Refusal
 named n =
     pick (eqb n 1) OutsideLimits (
     pick (eqb n 2) OtherLength (
@@ -26,7 +27,7 @@ named n =
     pick (eqb n 13) SharedGroup (
     OtherRun)))))))))))))
 
-named-number : (r : Refusal) → named (number r) ≡ r
+pub named-number : (r : Refusal) → named (number r) ≡ r
 unfolding named
 named-number OutsideLimits = refl
 named-number OtherLength = refl

@@ -84,7 +84,7 @@ pub fn refuses(r: Refusal, shape: Shape, t: Tracker) -> Turned
     Turned {
         shape,
         tracker: t,
-        answer: Answer::No(r as u8),
+        answer: Answer::No(r),
         transfers: Transfers::none(),
     }
 }

@@ -165,7 +165,8 @@ pub fn fresh(n: u64, c: u64, tags: &mut [u8], bits: &mut [u8]) -> Result<(), Ref
 
 // The value of group g. Refused 1, 15, 2, 6.
 pub fn read(n: u64, c: u64, tags: &[u8], bits: &[u8], g: u64) -> Result<u32, Refusal>
-    ensures { given result ≡ read n c (lent tags.now bits.now) g }
+    ensures told { given result ≡ read n c (lent tags.now bits.now) g }
+    ensures fits { IfOk result (λ v. v < 4294967296) }
 {
     let (runs, g) = Runs::group(n, c, tags.len(), bits.len(), g)?;
     Ok(runs.group_read(tags, bits, g))

@@ -2,7 +2,7 @@
 // No public function has a `requires`. Zero words of the map are passed over: time goes with the map's words and the tagged leaves, not with the groups.
 #![tactic(auto)]
 
-ghost use Rattle.std.specs.Prelude.{◌≡◌, true, ◌+◌, ◌*◌, ◌^◌, ◌%◌, ◌≤◌, ◌<◌, length, ltb, IfOk, Some, None};
+ghost use Rattle.std.specs.Prelude.{◌≡◌, true, ◌+◌, ◌*◌, ◌^◌, ◌%◌, ◌≤◌, ◌<◌, length, ltb, IfOk, Some, None, IfSome};
 ghost use Rattle.laws.specs.Choice.{pick};
 ghost use Rattle.laws.specs.Refusal.{refusal, refused_with, given};
 ghost use Rattle.laws.specs.Scan.{first_from, count_from};
@@ -214,28 +214,32 @@ pub fn between(n: u64, memory: &[u8], a: u64, b: u64) -> Result<Tagged, Refusal>
 
 // The lowest tagged group alone. A true memory is then taken as true.
 pub fn first_tagged(n: u64, memory: &[u8], a: u64, b: u64) -> Result<Option<u32>, Refusal>
-    ensures { group_given result ≡ group_number (between n memory.now a b) }
+    ensures told { group_given result ≡ group_number (between n memory.now a b) }
+    ensures fits { IfOk result (λ o. IfSome o (λ g. g < 4294967296)) }
 {
     Ok(Span::new(n, memory, a, b)?.lowest())
 }
 
 // The number of tagged leaves alone.
 pub fn tagged_leaves(n: u64, memory: &[u8], a: u64, b: u64) -> Result<u32, Refusal>
-    ensures { given result ≡ leaves_number (between n memory.now a b) }
+    ensures told { given result ≡ leaves_number (between n memory.now a b) }
+    ensures fits { IfOk result (λ v. v < 4294967296) }
 {
     Ok(Span::new(n, memory, a, b)?.leaves())
 }
 
 // `first_tagged` with the memory taken as true. Of any bytes: the lowest group that plain reading says is not zero.
 pub fn first_tagged_as_true(n: u64, memory: &[u8], a: u64, b: u64) -> Result<Option<u32>, Refusal>
-    ensures { group_given result ≡ group_number (between_as_true n memory.now a b) }
+    ensures told { group_given result ≡ group_number (between_as_true n memory.now a b) }
+    ensures fits { IfOk result (λ o. IfSome o (λ g. g < 4294967296)) }
 {
     Ok(Span::as_true(n, memory, a, b)?.lowest())
 }
 
 // `tagged_leaves` with the memory taken as true. Of any bytes: the number of leaves with bit 1.
 pub fn tagged_leaves_as_true(n: u64, memory: &[u8], a: u64, b: u64) -> Result<u32, Refusal>
-    ensures { given result ≡ leaves_number (between_as_true n memory.now a b) }
+    ensures told { given result ≡ leaves_number (between_as_true n memory.now a b) }
+    ensures fits { IfOk result (λ v. v < 4294967296) }
 {
     Ok(Span::as_true(n, memory, a, b)?.leaves())
 }

@@ -10,6 +10,8 @@ use mathlib.Core.Bool.{true, false}
 use Rattle.laws.proofs.Choice.{same_truth}
 use Rattle.laws.specs.Bytes.{splice, fits}
 use Rattle.tracker.specs.Answer.{Said, ok, wait, moved, read, done, same, no, says}
+use Rattle.laws.specs.declared.Refusal.{Refusal}
+use Rattle.laws.specs.Refusal.{number}
 use Rattle.tracker.specs.declared.Answer.{Answer}
 use Rattle.tracker.specs.declared.Transfers.{Transfers}
 use Rattle.tracker.specs.declared.Answer.TheVariants.{Accepted, Wait, Moved, Read, Done, Same, No}
@@ -65,9 +67,9 @@ module _ (answer : Answer) where
   unfolding said_text turns
   says_same k y e f = rw (e, f)
 
-  pub says-no : (c y : ℕ) → answer ≡ No y → c ≡ y → said_text (says answer) ≡ (110 ∷ 111 ∷ 32 ∷ []) ++ decimal c
+  pub says-no : (c : ℕ) (r : Refusal) → answer ≡ No r → c ≡ number r → said_text (says answer) ≡ (110 ∷ 111 ∷ 32 ∷ []) ++ decimal c
   unfolding said_text
-  says-no c y e f = rw (e, f)
+  says-no c r e f = rw (e, f)
 
   -- a text t that is put is what the answer says
   pub said_put : (m : List ℕ) (a : ℕ) (t : List ℕ) {m1 : List ℕ} {r : ℕ} → said_text (says answer) ≡ t → length t ≤ 25 → m1 ≡ splice m a t → r ≡ a + length t
@@ -120,9 +122,9 @@ module _ (answer : Answer) (t : Transfers) where
   unfolding gains
   gains-same k e = rw e
 
-  pub gains-no : (c : ℕ) → answer ≡ No c → gains (says answer) t ≡ []
+  pub gains-no : (r : Refusal) → answer ≡ No r → gains (says answer) t ≡ []
   unfolding gains
-  gains-no c e = rw e
+  gains-no r e = rw e
 
   -- nothing is put
   pub gains-none : (m : List ℕ) (a : ℕ) → gains (says answer) t ≡ [] → (m ≡ splice m a (gains (says answer) t)) × (a ≡ a + length (gains (says answer) t)) × (a ≤ a + 15)

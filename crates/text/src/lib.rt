@@ -94,7 +94,7 @@ fn put_said(out: &mut [u8], at: usize, answer: Answer) -> usize
         Answer::Read(v, k) => put_read(out, at, u64::from(v), u64::from(k)),
         Answer::Done(k) => put_count(out, at, b"done turns ", u64::from(k)),
         Answer::Same(k) => put_count(out, at, b"same turns ", u64::from(k)),
-        Answer::No(c) => put_count(out, at, b"no ", u64::from(c)),
+        Answer::No(r) => put_count(out, at, b"no ", u64::from(u8::from(r))),
     }
 }
 

@@ -1,5 +1,6 @@
 -- What a call says, in 01's words, numbers and values.
 use Rattle.std.specs.Prelude.{ℕ}
+use Rattle.laws.specs.Refusal.{number}
 use Rattle.tracker.specs.declared.Answer.{Answer}
 use Rattle.tracker.specs.declared.Answer.TheVariants.{Accepted, Wait, Moved, Read, Done, Same, No}
 
@@ -21,4 +22,4 @@ says Moved = moved
 says (Read v k) = read v k
 says (Done k) = done k
 says (Same k) = same k
-says (No c) = no c
+says (No r) = no (number r)

@@ -7,6 +7,8 @@ ghost use Rattle.tracker.specs.Tracker.{idle, level_of, asks_at, keeps_at, first
 ghost use Rattle.tracker.specs.Transfers.{none, most_transfers, plus};
 ghost use Rattle.laws.specs.Choice.{pick};
 
+use laws::Refusal;
+
 // Where a tracker stands. Probe and Under are of a level: on 01's device Under(0) is its Leaf, and Top its Map. Finish is two, Set and Clear, by what it
 // does to the bit over a block of a level.
 #[derive(Clone, Copy, PartialEq, Eq, Default)]
@@ -103,7 +105,7 @@ pub enum Answer {
     Read(u32, u16),
     Done(u16),
     Same(u16),
-    No(u8),
+    No(Refusal),
 }
 
 // One turn more; it stays at 65,535 once there.

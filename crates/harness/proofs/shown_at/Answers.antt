@@ -6,8 +6,8 @@ use Rattle.cache.specs.Seen.{seen}
 use Rattle.harness.proofs.Ways.{shown-no}
 use Rattle.harness.proofs.shown_at.Goals as goal
 
-pub returns-in_err-can_show : goal.returns-in_err-can_show
-returns-in_err-can_show c =
+pub returns-in_err-can_show-clause-told : goal.returns-in_err-can_show-clause-told
+returns-in_err-can_show-clause-told c =
     let a = c.args in
     let p = err_from_is_err_and c.from_residual.result c.from_residual.ensures.1 in rw (p.1, p.2)
     (shown-no (seen a.s) a.bytes.now a.memory.now a.k _ c.in_err-can_show.ensures (number-some _))

@@ -8,13 +8,13 @@ use Rattle.tagged.specs.Tagged.{group_given}
 use Rattle.tagged.proofs.Refusals.{number-no, number-said}
 use Rattle.tagged.proofs.first_tagged.Goals as goal
 
-pub returns-in_err-new : goal.returns-in_err-new
-returns-in_err-new c =
+pub returns-in_err-new-clause-told : goal.returns-in_err-new-clause-told
+returns-in_err-new-clause-told c =
     let some = number-some c.in_err-new.field-0.0 in
     let told : group_given c.from_residual.result ≡ 4294967296 + number c.in_err-new.field-0.0 = search rules in
     told ∙ sym (number-no _ _ _ _ _ c.in_err-new.ensures.told some)
 
-pub returns : goal.returns
-returns c =
+pub returns-clause-told : goal.returns-clause-told
+returns-clause-told c =
     let ok = c.in_ok-new.ensures in
     number-said _ _ _ _ _ (rw (ok.same.0, ok.same.1, ok.same.2, ok.same.3) at c.lowest.ensures) (sym ok.told)

@@ -1,4 +1,5 @@
 -- `text::put_said` meets its contract: each case's own pieces.
+use mathlib.Core.Path.{◌∙◌}
 use native.Mathlib.Omega.{arith}
 use Rattle.wording.proofs.Numbers.{length-decimal, places-8, places-16}
 use Rattle.text.proofs.Lines.{says-ok, says-wait, says-moved, says-read, says-done, says_same, says-no, said_put, length-read}
@@ -15,10 +16,6 @@ put_count-requires c =
 pub put_count-requires-in-Same : goal.put_count-requires-in-Same
 put_count-requires-in-Same c =
     omega (arith, places-16 c.from-in-Same.result (omega arith))
-
-pub put_count-requires-in-No : goal.put_count-requires-in-No
-put_count-requires-in-No c =
-    omega (arith, places-8 c.from-in-No.result (omega arith))
 
 pub returns-in-Accepted : goal.returns-in-Accepted
 returns-in-Accepted c =
@@ -60,9 +57,14 @@ returns-in-Same c =
     let w = c.from-in-Same in
     said_put a.answer a.out.now a.at _ (says_same a.answer w.result _ c.in-Same.is w.ensures) (omega (arith, length-decimal w.result, places-16 w.result (omega arith))) e.0 e.1
 
+pub put_count-requires-in-No : goal.put_count-requires-in-No
+put_count-requires-in-No c =
+    omega (arith, places-8 c.from-in-No-2.result (omega arith))
+
 pub returns-in-No : goal.returns-in-No
 returns-in-No c =
     let a = c.args in
     let e = c.put_count-in-No.ensures in
-    let w = c.from-in-No in
-    said_put a.answer a.out.now a.at _ (says-no a.answer w.result _ c.in-No.is w.ensures) (omega (arith, length-decimal w.result, places-8 w.result (omega arith))) e.0 e.1
+    let w = c.from-in-No-2 in
+    said_put a.answer a.out.now a.at _ (says-no a.answer w.result _ c.in-No.is (w.ensures ∙ c.from-in-No.ensures))
+    (omega (arith, length-decimal w.result, places-8 w.result (omega arith))) e.0 e.1
