@@ -17,9 +17,11 @@ use Rattle.wording.proofs.Numbers.{length_digits, no-digits, digit-more}
 use Rattle.text.specs.declared.Line.{Line}
 use Rattle.text.specs.Line.{Room, Puts}
 
--- the row keeps its length
-pub puts-length : (a b : Line) (t : List ℕ) → Room a (length t) → Puts a b t → length b.out.now ≡ length a.out.now
-puts-length a b t h e = rw (e.0) (length-splice a.out.now a.at t h)
+-- what room is left after a text: the row keeps its length
+pub room-after : (a b : Line) (t : List ℕ) (n : ℕ) → Room a (length t + n) → Puts a b t → Room b n
+room-after a b t n h e =
+    let l : length b.out.now ≡ length a.out.now = rw e.0 (length-splice a.out.now a.at t (omega arith)) in
+    omega (arith, e.1, l)
 
 -- a part `&mut s[a..a + n]`, as the borrow checker has it, is n long
 pub length_mid : (m : List ℕ) (a n : ℕ) → a + n ≤ length m → length (take (a + n - a) (drop a m)) ≡ n

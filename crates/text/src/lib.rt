@@ -52,6 +52,7 @@ struct Line<'a> {
 }
 
 impl Line<'_> {
+    // The text.
     fn put(&mut self, text: &[u8])
         requires { Room self.old (length text.now) }
         ensures { Puts self.old self.new text.now }

@@ -1,7 +1,6 @@
 -- `text::put_digits` meets its contract: the digits after `i` are in place, and `rest` is what is left of v.
 use mathlib.Core.Path.{◌∙◌}
 use Prim.Native.Nat.{◌-◌}
-use native.Mathlib.Nat.{mod-lt}
 use native.Mathlib.Omega.{arith}
 use lib.ListN.{length}
 use Rattle.wording.proofs.Numbers.{rest-next, rest_all}
@@ -15,10 +14,6 @@ loop-i-init c =
       digits-none a.out.now a.base w a.v w (omega arith),
       rest_all a.base a.v (w - w) (omega arith),
     )
-
-pub digit-requires : goal.digit-requires
-digit-requires c =
-    omega (arith, mod-lt c.loop-i.rest {m = c.args.base} c.requires.0)
 
 pub loop-i-preserved : goal.loop-i-preserved
 loop-i-preserved c =

@@ -1,13 +1,13 @@
 -- `text::Line::answer` meets its contract: what is said, then what it gains.
 use native.Mathlib.Omega.{arith}
-use Rattle.text.proofs.Writes.{puts-length}
+use Rattle.text.proofs.Writes.{room-after}
 use Rattle.text.proofs.Lines.{answer-is}
 use Rattle.text.proofs.Line.answer.Goals as goal
 
 pub gains-requires : goal.gains-requires
 gains-requires c =
     let e = c.said.ensures in
-    omega (arith, e.0.1, e.1, puts-length c.args.self.now c.said.new.self _ (omega (arith, e.1)) e.0)
+    room-after c.args.self.now c.said.new.self _ 15 (omega (arith, e.1)) e.0
 
 pub returns : goal.returns
 returns c =

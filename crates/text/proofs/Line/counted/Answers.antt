@@ -1,13 +1,12 @@
 -- `text::Line::counted` meets its contract: the word, then the number.
 use native.Mathlib.Omega.{arith}
-use Rattle.wording.specs.Text.{decimal}
-use Rattle.text.proofs.Writes.{puts-length, puts-then}
+use Rattle.wording.specs.Text.{places, decimal}
+use Rattle.text.proofs.Writes.{room-after, puts-then}
 use Rattle.text.proofs.Line.counted.Goals as goal
 
 pub decimal-requires : goal.decimal-requires
 decimal-requires c =
-    let a = c.args in
-    omega (arith, c.put.ensures.1, puts-length a.self.now c.put.new.self a.word.now (omega arith) c.put.ensures)
+    room-after c.args.self.now c.put.new.self c.args.word.now (places c.args.k) (omega arith) c.put.ensures
 
 pub returns : goal.returns
 returns c =

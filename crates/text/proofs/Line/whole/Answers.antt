@@ -2,7 +2,7 @@
 use native.Mathlib.Omega.{arith}
 use Rattle.tracker.specs.Answer.{says}
 use Rattle.wording.proofs.Numbers.{length-decimal, places-64}
-use Rattle.text.proofs.Writes.{puts-length}
+use Rattle.text.proofs.Writes.{room-after}
 use Rattle.text.proofs.Lines.{line-is}
 use Rattle.text.proofs.Line.whole.Goals as goal
 
@@ -13,19 +13,15 @@ pub put-requires : goal.put-requires
 put-requires c =
     let k = c.args.k in
     let d = c.decimal in
-    let p = places-64 k (omega arith) in
-    let x = puts-length c.args.self.now d.new.self _ (omega (arith, length-decimal k, p)) d.ensures in
-    omega (arith, length-decimal k, p, d.ensures.1, x)
+    room-after c.args.self.now d.new.self _ 1 (omega (arith, length-decimal k, places-64 k (omega arith))) d.ensures
 
 pub answer-requires : goal.answer-requires
 answer-requires c =
     let k = c.args.k in
     let d = c.decimal in
     let s = c.put in
-    let p = places-64 k (omega arith) in
-    let x = puts-length c.args.self.now d.new.self _ (omega (arith, length-decimal k, p)) d.ensures in
-    let y = puts-length d.new.self s.new.self _ (omega (arith, length-decimal k, p, d.ensures.1, x)) s.ensures in
-    omega (arith, length-decimal k, p, d.ensures.1, s.ensures.1, x, y)
+    let r = room-after c.args.self.now d.new.self _ 41 (omega (arith, length-decimal k, places-64 k (omega arith))) d.ensures in
+    room-after d.new.self s.new.self _ 40 (omega (arith, r)) s.ensures
 
 pub put-requires-2 : goal.put-requires-2
 put-requires-2 c =
@@ -33,11 +29,9 @@ put-requires-2 c =
     let d = c.decimal in
     let s = c.put in
     let w = c.answer in
-    let p = places-64 k (omega arith) in
-    let x = puts-length c.args.self.now d.new.self _ (omega (arith, length-decimal k, p)) d.ensures in
-    let y = puts-length d.new.self s.new.self _ (omega (arith, length-decimal k, p, d.ensures.1, x)) s.ensures in
-    let z = puts-length s.new.self w.new.self _ (omega (arith, length-decimal k, p, d.ensures.1, s.ensures.1, w.ensures.1, x, y)) w.ensures.0 in
-    omega (arith, length-decimal k, p, d.ensures.1, s.ensures.1, w.ensures.0.1, w.ensures.1, x, y, z)
+    let r = room-after c.args.self.now d.new.self _ 42 (omega (arith, length-decimal k, places-64 k (omega arith))) d.ensures in
+    let q = room-after d.new.self s.new.self _ 41 (omega (arith, r)) s.ensures in
+    room-after s.new.self w.new.self _ 1 (omega (arith, w.ensures.1, q)) w.ensures.0
 
 pub returns : goal.returns
 returns c =
