@@ -45,6 +45,7 @@ fn put_digits(out: &mut [u8], base: u64, v: u64)
 }
 
 // A lent row, and the place in it where the next text goes.
+// Kept: methods that put bytes, no `impl Display` written into the row: std's `write` says what the row holds on Ok alone, and nothing says that it is Ok where there is room, while `put_line` ensures the bytes always.
 #[derive(Drop)]
 struct Line<'a> {
     out: &'a mut [u8],
