@@ -5,9 +5,9 @@ use Prim.Native.Nat.{ℕ, suc, ◌+◌, ◌-◌, ◌/◌, ◌%◌, ◌^◌, ◌�
 use native.Mathlib.Omega.{arith}
 use borrow.Author.Tests.{le-leb, leb-true}
 use lib.Dec.{leb}
-use Rattle.laws.proofs.Choice.{same_truth}
 use lib.ListN.{length, set, take, drop, length-append}
 use Rattle.laws.specs.Bytes.{splice}
+use Rattle.laws.proofs.Choice.{same_truth}
 use Rattle.laws.proofs.Writes.{splice-none, splice-cons, splice-then}
 use Rattle.laws.proofs.Put.{part-is, length_part}
 use Rattle.laws.proofs.Splice.{length-splice}
