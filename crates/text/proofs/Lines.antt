@@ -1,13 +1,11 @@
 -- Laws of whole lines: each answer's text piece by piece, and that no line is longer than `most`.
-use mathlib.Core.Path.{◌≡◌, sym}
+use mathlib.Core.Path.{◌≡◌, refl, sym}
 use mathlib.Core.List.{List, [], ◌∷◌, ◌++◌, append_assoc}
-use Prim.Native.Nat.{ℕ, ◌+◌, ◌-◌, ◌≤◌, ◌<◌}
+use Prim.Native.Nat.{ℕ, ◌+◌, ◌≤◌, ◌<◌}
 use native.Mathlib.Omega.{arith}
 use lib.ListN.{length, length-append}
-use borrow.Author.Tests.{le-leb, leb-true}
-use lib.Dec.{leb}
+use borrow.Author.Tests.{leb-true}
 use mathlib.Core.Bool.{true, false}
-use Rattle.laws.proofs.Choice.{same_truth}
 use Rattle.laws.specs.Bytes.{splice, fits}
 use Rattle.tracker.specs.Answer.{Said, ok, wait, moved, read, done, same, no, says}
 use Rattle.laws.specs.declared.Refusal.{Refusal}
@@ -18,29 +16,20 @@ use Rattle.tracker.specs.declared.Answer.TheVariants.{Accepted, Wait, Moved, Rea
 use Rattle.wording.specs.Text.{digits, places, decimal, hex, turns, said_text, Narrow, transfers_text, gains, Few, answer_line, line_text, most, line_in}
 use Rattle.wording.proofs.Numbers.{length_digits, length-decimal, places-8, places-16, places-64}
 use Rattle.laws.proofs.Writes.{splice-none}
-use Rattle.text.proofs.Writes.{then-put, then-end}
+use Rattle.text.specs.declared.Line.{Line}
+use Rattle.text.specs.Line.{Room, Puts, PutsIn}
+use Rattle.text.proofs.Writes.{puts-then}
 
 -- `read V turns K`, in three pieces
-module _ (m : List ℕ) (a v k : ℕ) {m1 m2 m3 : List ℕ} {p r : ℕ}
-    (h : a + 20 + places k ≤ length m)
-    (e1 : m1 ≡ splice m a (114 ∷ 101 ∷ 97 ∷ 100 ∷ 32 ∷ [])) (f1 : p ≡ a + 5)
-    (e2 : m2 ≡ splice m1 p (digits 16 8 v))
-    (e3 : m3 ≡ splice m2 (p + 8) ((32 ∷ 116 ∷ 117 ∷ 114 ∷ 110 ∷ 115 ∷ 32 ∷ []) ++ decimal k))
-    (f3 : r ≡ p + 8 + length ((32 ∷ 116 ∷ 117 ∷ 114 ∷ 110 ∷ 115 ∷ 32 ∷ []) ++ decimal k)) where
+module _ (a b c d : Line) (v k : ℕ) where
   word : List ℕ
   word = 114 ∷ 101 ∷ 97 ∷ 100 ∷ 32 ∷ []
 
-  read-to : length (word ++ digits 16 8 v) ≡ 13
-  unfolding word
-  read-to = omega (arith, length_digits 16 8 v)
-
-  pub read_is : (m3 ≡ splice m a (said_text (read v k))) × (r ≡ a + length (said_text (read v k)))
+  pub read_is : Room a (20 + places k) → Puts a b (114 ∷ 101 ∷ 97 ∷ 100 ∷ 32 ∷ []) → Puts b c (digits 16 8 v)
+      → Puts c d ((32 ∷ 116 ∷ 117 ∷ 114 ∷ 110 ∷ 115 ∷ 32 ∷ []) ++ decimal k) → Puts a d (said_text (read v k))
   unfolding word said_text hex turns
-  read_is =
-      let g2 : m2 ≡ splice m a (word ++ digits 16 8 v) = then-put m a word (digits 16 8 v) (omega arith) e1 f1 e2 in
-      let t2 : p + 8 ≡ a + length (word ++ digits 16 8 v) = omega (arith, read-to) in
-      let h2 : a + length (word ++ digits 16 8 v) ≤ length m = omega (arith, read-to) in
-      (then-put m a (word ++ digits 16 8 v) _ h2 g2 t2 e3, then-end m a (word ++ digits 16 8 v) _ t2 f3)
+  read_is h e f g =
+      puts-then a c d (word ++ digits 16 8 v) _ (omega (arith, length_digits 16 8 v)) (puts-then a b c word (digits 16 8 v) (omega arith) e f) g
 
 -- what each answer says
 module _ (answer : Answer) where
@@ -72,28 +61,22 @@ module _ (answer : Answer) where
   says-no c r e f = rw (e, f)
 
   -- a text t that is put is what the answer says
-  pub said_put : (m : List ℕ) (a : ℕ) (t : List ℕ) {m1 : List ℕ} {r : ℕ} → said_text (says answer) ≡ t → length t ≤ 25 → m1 ≡ splice m a t → r ≡ a + length t
-      → (m1 ≡ splice m a (said_text (says answer))) × (r ≡ a + length (said_text (says answer))) × (r ≤ a + 25)
-  said_put m a t e l f g = (rw e f, rw e g, omega arith)
+  pub said_put : (a b : Line) (t : List ℕ) → said_text (says answer) ≡ t → length t ≤ 25 → Puts a b t → PutsIn 25 a b (said_text (says answer))
+  said_put a b t e l f = rw e (f, l)
 
 pub length-read : (v k : ℕ) → length (said_text (read v k)) ≡ 20 + places k
 unfolding said_text hex turns
 length-read v k = simp (length-append, length_digits, length-decimal) (omega arith)
 
 -- ` in I out O`, in two pieces: i and o are the transfers' sums
-module _ (m : List ℕ) (a : ℕ) (t : Transfers) (i o : ℕ) {m1 m2 : List ℕ} {p r : ℕ}
-    (h : a + 15 ≤ length m) (gi : (i ≡ t.fetched) × (i < 256)) (go : (o ≡ t.back) × (o < 256))
-    (e1 : m1 ≡ splice m a ((32 ∷ 105 ∷ 110 ∷ 32 ∷ []) ++ decimal i)) (f1 : p ≡ a + length ((32 ∷ 105 ∷ 110 ∷ 32 ∷ []) ++ decimal i))
-    (e2 : m2 ≡ splice m1 p ((32 ∷ 111 ∷ 117 ∷ 116 ∷ 32 ∷ []) ++ decimal o))
-    (f2 : r ≡ p + length ((32 ∷ 111 ∷ 117 ∷ 116 ∷ 32 ∷ []) ++ decimal o)) where
-  pub transfers-is : (m2 ≡ splice m a (transfers_text t)) × (r ≡ a + length (transfers_text t)) × (r ≤ a + 15)
+module _ (a b c : Line) (t : Transfers) (i o : ℕ) where
+  pub transfers-is : Room a 15 → (i ≡ t.fetched) × (i < 256) → (o ≡ t.back) × (o < 256) → Puts a b ((32 ∷ 105 ∷ 110 ∷ 32 ∷ []) ++ decimal i)
+      → Puts b c ((32 ∷ 111 ∷ 117 ∷ 116 ∷ 32 ∷ []) ++ decimal o) → PutsIn 15 a c (transfers_text t)
   unfolding transfers_text
-  transfers-is =
-      let h1 : a + length ((32 ∷ 105 ∷ 110 ∷ 32 ∷ []) ++ decimal i) ≤ length m = omega (arith, length-decimal i, places-8 i gi.1) in
+  transfers-is h gi go e f =
       rw (← gi.0, ← go.0) (
-        then-put m a ((32 ∷ 105 ∷ 110 ∷ 32 ∷ []) ++ decimal i) _ h1 e1 f1 e2,
-        then-end m a ((32 ∷ 105 ∷ 110 ∷ 32 ∷ []) ++ decimal i) _ f1 f2,
-        omega (arith, length-decimal i, length-decimal o, places-8 i gi.1, places-8 o go.1),
+        puts-then a b c ((32 ∷ 105 ∷ 110 ∷ 32 ∷ []) ++ decimal i) _ (omega (arith, length-decimal i, places-8 i gi.1)) e f,
+        omega (arith, length-append (decimal i) ((32 ∷ 111 ∷ 117 ∷ 116 ∷ 32 ∷ []) ++ decimal o), length-decimal i, length-decimal o, places-8 i gi.1, places-8 o go.1),
       )
 
 -- what each answer gains
@@ -127,48 +110,36 @@ module _ (answer : Answer) (t : Transfers) where
   gains-no r e = rw e
 
   -- nothing is put
-  pub gains-none : (m : List ℕ) (a : ℕ) → gains (says answer) t ≡ [] → (m ≡ splice m a (gains (says answer) t)) × (a ≡ a + length (gains (says answer) t)) × (a ≤ a + 15)
-  gains-none m a e = (rw e (sym (splice-none m a)), rw e (omega arith), omega arith)
+  pub gains-none : (a : Line) → gains (says answer) t ≡ [] → PutsIn 15 a a (gains (says answer) t)
+  gains-none a e = rw e ((sym (splice-none a.out.now a.at), omega arith, refl), omega arith)
 
   -- the transfers are put
-  pub gains-put : (m : List ℕ) (a : ℕ) {m1 : List ℕ} {r : ℕ} → gains (says answer) t ≡ transfers_text t
-      → (m1 ≡ splice m a (transfers_text t)) × (r ≡ a + length (transfers_text t)) × (r ≤ a + 15)
-      → (m1 ≡ splice m a (gains (says answer) t)) × (r ≡ a + length (gains (says answer) t)) × (r ≤ a + 15)
-  gains-put m a e f = rw e f
+  pub gains-put : (a b : Line) → gains (says answer) t ≡ transfers_text t → PutsIn 15 a b (transfers_text t) → PutsIn 15 a b (gains (says answer) t)
+  gains-put a b e f = rw e f
 
 -- what is said, then what it gains
-pub answer-is : (m : List ℕ) (a : ℕ) (answer : Answer) (t : Transfers) {m1 m2 : List ℕ} {p r : ℕ} → a + 40 ≤ length m
-    → (m1 ≡ splice m a (said_text (says answer))) × (p ≡ a + length (said_text (says answer))) × (p ≤ a + 25)
-    → (m2 ≡ splice m1 p (gains (says answer) t)) × (r ≡ p + length (gains (says answer) t)) × (r ≤ p + 15)
-    → (m2 ≡ splice m a (said_text (says answer) ++ gains (says answer) t)) × (r ≡ a + length (said_text (says answer) ++ gains (says answer) t)) × (r ≤ a + 40)
-answer-is m a answer t h e f = (
-  then-put m a (said_text (says answer)) _ (omega (arith, e.1, e.2)) e.0 e.1 f.0,
-  then-end m a (said_text (says answer)) _ e.1 f.1,
-  omega (arith, e.2, f.2),
+pub answer-is : (a b c : Line) (answer : Answer) (t : Transfers) → Room a 40 → PutsIn 25 a b (said_text (says answer))
+    → PutsIn 15 b c (gains (says answer) t) → PutsIn 40 a c (said_text (says answer) ++ gains (says answer) t)
+answer-is a b c answer t h e f = (
+  puts-then a b c (said_text (says answer)) _ (omega (arith, e.1)) e.0 f.0,
+  simp length-append (omega (arith, e.1, f.1)),
 )
 
 -- a line in four pieces, the text of the answer the third
-module _ (m : List ℕ) (a k : ℕ) (said : Said) (t : Transfers) {m1 m2 m3 m4 : List ℕ} {p q e r : ℕ}
-    (h : a + most ≤ length m) (b : k < 18446744073709551616)
-    (e1 : m1 ≡ splice m a (decimal k)) (f1 : p ≡ a + length (decimal k))
-    (e2 : m2 ≡ splice m1 p (32 ∷ [])) (f2 : q ≡ p + 1)
-    (e3 : m3 ≡ splice m2 q (said_text said ++ gains said t)) (f3 : e ≡ q + length (said_text said ++ gains said t)) (g3 : e ≤ q + 40)
-    (e4 : m4 ≡ splice m3 e (10 ∷ [])) (f4 : r ≡ e + 1) where
+module _ (a b c d e : Line) (k : ℕ) (said : Said) (t : Transfers) where
   pieces : ((decimal k ++ (32 ∷ [])) ++ (said_text said ++ gains said t)) ++ (10 ∷ []) ≡ line_text k said t
   unfolding line_text answer_line
   pieces = simp append_assoc
 
-  pub line-is : (m4 ≡ splice m a (line_text k said t)) × (r ≡ a + length (line_text k said t))
-  line-is =
-      let d : length (decimal k) ≤ 20 = omega (arith, length-decimal k, places-64 k b) in
-      let g2 : m2 ≡ splice m a (decimal k ++ (32 ∷ [])) = then-put m a (decimal k) (32 ∷ []) (omega arith) e1 f1 e2 in
-      let t2 : q ≡ a + length (decimal k ++ (32 ∷ [])) = then-end m a (decimal k) (32 ∷ []) f1 f2 in
-      let gs : m3 ≡ splice m a ((decimal k ++ (32 ∷ [])) ++ (said_text said ++ gains said t)) = then-put m a (decimal k ++ (32 ∷ [])) (said_text said ++ gains said t) (omega arith) g2 t2 e3 in
-      let ts : e ≡ a + length ((decimal k ++ (32 ∷ [])) ++ (said_text said ++ gains said t)) = then-end m a (decimal k ++ (32 ∷ [])) (said_text said ++ gains said t) t2 f3 in
-      rw (← pieces) (
-        then-put m a ((decimal k ++ (32 ∷ [])) ++ (said_text said ++ gains said t)) (10 ∷ []) (omega arith) gs ts e4,
-        then-end m a ((decimal k ++ (32 ∷ [])) ++ (said_text said ++ gains said t)) (10 ∷ []) ts f4,
-      )
+  pub line-is : Room a most → k < 18446744073709551616 → Puts a b (decimal k) → Puts b c (32 ∷ []) → PutsIn 40 c d (said_text said ++ gains said t)
+      → Puts d e (10 ∷ []) → Puts a e (line_text k said t)
+  line-is h r f g s n =
+      let l : length (decimal k) ≤ 20 = omega (arith, length-decimal k, places-64 k r) in
+      let l2 : length (decimal k ++ (32 ∷ [])) ≤ 21 = simp length-append (omega arith) in
+      let l3 : length ((decimal k ++ (32 ∷ [])) ++ (said_text said ++ gains said t)) ≤ 61 = omega (arith, length-append (decimal k ++ (32 ∷ [])) (said_text said ++ gains said t), l2, s.1) in
+      let p : Puts a c (decimal k ++ (32 ∷ [])) = puts-then a b c (decimal k) (32 ∷ []) (omega arith) f g in
+      let q : Puts a d ((decimal k ++ (32 ∷ [])) ++ (said_text said ++ gains said t)) = puts-then a c d (decimal k ++ (32 ∷ [])) _ (omega arith) p s.0 in
+      rw (← pieces) (puts-then a d e ((decimal k ++ (32 ∷ [])) ++ (said_text said ++ gains said t)) (10 ∷ []) (omega arith) q n)
 
 -- where there is room, and where there is none
 pub room_is : (m : List ℕ) (a : ℕ) → fits m a most ≡ true → a + most ≤ length m
@@ -186,12 +157,6 @@ module _ (m : List ℕ) (a k : ℕ) (said : Said) (t : Transfers) where
 
   pub no_room : fits m a most ≡ false → (m ≡ splice m a (line_in m a k said t)) × (a ≡ a + length (line_in m a k said t))
   no_room h = rw (no_line h) (sym (splice-none m a), omega arith)
-
--- a + n in l, told by what is left of l
-pub leb_minus : (a n l : ℕ) → n ≤ l → leb a (l - n) ≡ leb (a + n) l
-leb_minus a n l h = same_truth _ _
-    (λ t. let q : a ≤ l - n = leb-true _ _ t in le-leb (a + n) l (omega arith))
-    (λ t. let q : a + n ≤ l = leb-true _ _ t in le-leb a (l - n) (omega arith))
 
 -- no answer says more than 25 bytes and gains more than 15, and no line is longer than `most`
 pub said-≤ : (said : Said) → Narrow said → length (said_text said) ≤ 25

@@ -1,37 +1,59 @@
--- Laws of text put into a list: byte by byte, digit by digit, and one text after another.
-use mathlib.Core.Path.{◌≡◌, refl, sym, ◌∙◌}
+-- Laws of text put into a row: digit by digit, and one text after another.
+use mathlib.Core.Path.{◌≡◌, ap, refl, sym, ◌∙◌}
 use mathlib.Core.List.{List, ◌++◌}
-use Prim.Native.Nat.{ℕ, suc, ◌+◌, ◌-◌, ◌/◌, ◌%◌, ◌^◌, ◌≤◌, ◌<◌}
+use Prim.Native.Nat.{ℕ, suc, ◌+◌, ◌-◌, ◌/◌, ◌%◌, ◌^◌, ◌≤◌}
 use native.Mathlib.Omega.{arith}
-use lib.ListN.{length, set, length-append}
+use borrow.Author.Tests.{le-leb, leb-true}
+use lib.Dec.{leb}
+use lib.ListN.{length, set, take, drop, length-append}
 use Rattle.laws.specs.Bytes.{splice}
+use Rattle.laws.proofs.Choice.{same_truth}
 use Rattle.laws.proofs.Writes.{splice-none, splice-cons, splice-then}
+use Rattle.laws.proofs.Put.{part-is, length_part}
+use Rattle.laws.proofs.Splice.{length-splice}
+use Rattle.laws.proofs.Stores.{splice_all}
 use Rattle.wording.specs.Text.{digit_text, digits}
 use Rattle.wording.proofs.Numbers.{length_digits, no-digits, digit-more}
+use Rattle.text.specs.declared.Line.{Line}
+use Rattle.text.specs.Line.{Room, Puts}
 
--- one text after another, of what calls give: b is put from a up to p, then c
-module _ (m : List ℕ) (a : ℕ) (b c : List ℕ) where
-  pub then-put : {m1 m2 : List ℕ} {p : ℕ} → a + length b ≤ length m → m1 ≡ splice m a b → p ≡ a + length b → m2 ≡ splice m1 p c → m2 ≡ splice m a (b ++ c)
-  then-put h e f g = g ∙ rw (e, f) (splice-then m a b c (a + length b) refl h)
+-- what room is left after a text: the row keeps its length
+pub room-after : (a b : Line) (t : List ℕ) (n : ℕ) → Room a (length t + n) → Puts a b t → Room b n
+room-after a b t n h e =
+    let l : length b.out.now ≡ length a.out.now = rw e.0 (length-splice a.out.now a.at t (omega arith)) in
+    omega (arith, e.1, l)
 
-  pub then-end : {p q : ℕ} → p ≡ a + length b → q ≡ p + length c → q ≡ a + length (b ++ c)
-  then-end f g = simp length-append (omega arith)
+-- a part `&mut s[a..a + n]`, as the borrow checker has it, is n long
+pub length_mid : (m : List ℕ) (a n : ℕ) → a + n ≤ length m → length (take (a + n - a) (drop a m)) ≡ n
+length_mid m a n h = ap length (part-is m a n) ∙ length_part m a n h
+
+-- one text after another
+pub puts-then : (a b c : Line) (t u : List ℕ) → Room a (length t) → Puts a b t → Puts b c u → Puts a c (t ++ u)
+puts-then a b c t u h e f = (
+  f.0 ∙ rw (e.0, e.1) (splice-then a.out.now a.at t u (a.at + length t) refl h),
+  simp length-append (omega (arith, e.1, f.1)),
+  f.2 ∙ e.2,
+)
 
 -- digits from the last to the first
-module _ (m : List ℕ) (at base w v left : ℕ) where
-  pub digits-none : left ≡ w → m ≡ splice m (at + left) (digits base (w - left) v)
-  digits-none e = rw (no-digits base v (w - left) (omega arith)) (sym (splice-none m (at + left)))
+module _ (m : List ℕ) (base w v left : ℕ) where
+  pub digits-none : left ≡ w → m ≡ splice m left (digits base (w - left) v)
+  digits-none e = rw (no-digits base v (w - left) (omega arith)) (sym (splice-none m left))
 
-  pub digits_more : (rest d : ℕ) → 0 < left → left ≤ w → at + w ≤ length m → rest ≡ v / base ^ (w - left) → d ≡ digit_text (rest % base)
-      → set (splice m (at + left) (digits base (w - left) v)) (at + (left - 1)) d ≡ splice m (at + (left - 1)) (digits base (w - (left - 1)) v)
-  digits_more rest d z l h e f =
-      let p : at + left ≡ suc (at + (left - 1)) = omega arith in
-      let j : w - (left - 1) ≡ suc (w - left) = omega arith in
-      let g : suc (at + (left - 1)) + length (digits base (w - left) v) ≤ length m = omega (arith, length_digits base (w - left) v) in
-      rw (p, j, f, ← digit-more base v (w - left) rest e) (splice-cons m (at + (left - 1)) (digit_text (rest % base)) (digits base (w - left) v) g)
+  pub digits_more : (j rest d : ℕ) → left ≡ suc j → left ≤ w → w ≤ length m → rest ≡ v / base ^ (w - left) → d ≡ digit_text (rest % base)
+      → set (splice m left (digits base (w - left) v)) j d ≡ splice m j (digits base (w - j) v)
+  digits_more j rest d q l h e f =
+      let p : w - j ≡ suc (w - left) = omega arith in
+      let g : suc j + length (digits base (w - suc j) v) ≤ length m = omega (arith, length_digits base (w - suc j) v) in
+      rw (p, f, ← digit-more base v (w - left) rest e, q) (splice-cons m j (digit_text (rest % base)) (digits base (w - suc j) v) g)
 
-  pub digits-all : left ≡ 0 → splice m (at + left) (digits base (w - left) v) ≡ splice m at (digits base w v)
-  digits-all e =
-      let p : at + left ≡ at = omega arith in
-      let j : w - left ≡ w = omega arith in
-      rw (p, j)
+  pub digits-all : left ≡ 0 → w ≡ length m → splice m left (digits base (w - left) v) ≡ digits base w v
+  digits-all e f =
+      let j : w - 0 ≡ w = omega arith in
+      rw (e, j) (splice_all m (digits base w v) (omega (arith, length_digits base w v)))
+
+-- a + n in l, told by what is left of l
+pub leb_minus : (a n l : ℕ) → n ≤ l → leb a (l - n) ≡ leb (a + n) l
+leb_minus a n l h = same_truth _ _
+    (λ t. let q : a ≤ l - n = leb-true _ _ t in le-leb (a + n) l (omega arith))
+    (λ t. let q : a + n ≤ l = leb-true _ _ t in le-leb a (l - n) (omega arith))

@@ -1,1 +1,2 @@
 pub use Rattle.wording.specs.Text
+pub mod Line

@@ -6,6 +6,7 @@ ghost use Rattle.std.specs.Prelude.{◌≡◌, ◌++◌, ◌+◌, ◌≤◌, ◌
 ghost use Rattle.laws.specs.Bytes.{splice, fits};
 ghost use Rattle.tracker.specs.Answer.{says, read};
 ghost use Rattle.wording.specs.Text.{digit_text, digits, places, decimal, said_text, transfers_text, gains, line_text, most, line_in};
+ghost use Rattle.text.specs.Line.{Room, Puts, PutsIn};
 
 use tracker::{Answer, Transfers};
 
@@ -31,111 +32,129 @@ fn count(v: u64) -> usize
     if v == 0 { 1 } else { v.ilog10() as usize + 1 }
 }
 
-// The text goes into `out` from `at`; gives the place after it.
-fn put(out: &mut [u8], at: usize, text: &[u8]) -> usize
-    requires { at + length text.now ≤ length out.old }
-    ensures { (out.new ≡ splice out.old at text.now) × (result ≡ at + length text.now) }
-{
-    let end = at + text.len();
-    out[at..end].copy_from_slice(text);
-    end
-}
-
-// The w digits of v go into `out` from `at`, the last first.
-fn put_digits(out: &mut [u8], at: usize, base: u64, w: usize, v: u64)
-    requires { (0 < base) × (base ≤ 16) × (at + w ≤ length out.old) }
-    ensures { out.new ≡ splice out.old at (digits base w v) }
+// The digits of v fill the row, the last first.
+fn put_digits(out: &mut [u8], base: u64, v: u64)
+    requires { (0 < base) × (base ≤ 16) }
+    ensures { out.new ≡ digits base (length out.old) v }
 {
     let mut rest = v;
-    for i in (0..w).rev() {
-        out[at + i] = digit(rest % base);
+    for i in (0..out.len()).rev() {
+        out[i] = digit(rest % base);
         rest /= base;
     }
 }
 
-// A number in decimal; gives the place after it.
-fn put_decimal(out: &mut [u8], at: usize, v: u64) -> usize
-    requires { at + places v ≤ length out.old }
-    ensures { (out.new ≡ splice out.old at (decimal v)) × (result ≡ at + length (decimal v)) }
-{
-    let w = count(v);
-    put_digits(out, at, 10, w, v);
-    at + w
+// A lent row, and the place in it where the next text goes.
+// Kept: methods that put bytes, no `impl Display` written into the row: std's `write` says what the row holds on Ok alone, and nothing says that it is Ok where there is room, while `put_line` ensures the bytes always.
+#[derive(Drop)]
+struct Line<'a> {
+    out: &'a mut [u8],
+    at: usize,
 }
 
-// A word and a number in decimal; gives the place after them.
-fn put_count(out: &mut [u8], at: usize, word: &[u8], k: u64) -> usize
-    requires { at + length word.now + places k ≤ length out.old }
-    ensures { (out.new ≡ splice out.old at (word.now ++ decimal k)) × (result ≡ at + length (word.now ++ decimal k)) }
-{
-    let p = put(out, at, word);
-    put_decimal(out, p, k)
-}
-
-// `read V turns K`
-fn put_read(out: &mut [u8], at: usize, v: u64, k: u64) -> usize
-    requires { at + 20 + places k ≤ length out.old }
-    ensures { (out.new ≡ splice out.old at (said_text (read v k))) × (result ≡ at + length (said_text (read v k))) }
-{
-    let p = put(out, at, b"read ");
-    put_digits(out, p, 16, 8, v);
-    put_count(out, p + 8, b" turns ", k)
-}
-
-// What the answer says, at most 25 bytes; gives the place after it.
-fn put_said(out: &mut [u8], at: usize, answer: Answer) -> usize
-    requires { at + 25 ≤ length out.old }
-    ensures { (out.new ≡ splice out.old at (said_text (says answer))) × (result ≡ at + length (said_text (says answer))) × (result ≤ at + 25) }
-{
-    match answer {
-        Answer::Accepted => put(out, at, b"ok"),
-        Answer::Wait => put(out, at, b"wait"),
-        Answer::Moved => put(out, at, b"moved"),
-        Answer::Read(v, k) => put_read(out, at, u64::from(v), u64::from(k)),
-        Answer::Done(k) => put_count(out, at, b"done turns ", u64::from(k)),
-        Answer::Same(k) => put_count(out, at, b"same turns ", u64::from(k)),
-        Answer::No(r) => put_count(out, at, b"no ", u64::from(u8::from(r))),
+impl Line<'_> {
+    // The text.
+    fn put(&mut self, text: &[u8])
+        requires { Room self.old (length text.now) }
+        ensures { Puts self.old self.new text.now }
+    {
+        let end = self.at + text.len();
+        self.out[self.at..end].copy_from_slice(text);
+        self.at = end;
     }
-}
 
-// ` in I out O`, at most 15 bytes; gives the place after it.
-fn put_transfers(out: &mut [u8], at: usize, transfers: Transfers) -> usize
-    requires { at + 15 ≤ length out.old }
-    ensures { (out.new ≡ splice out.old at (transfers_text transfers)) × (result ≡ at + length (transfers_text transfers)) × (result ≤ at + 15) }
-{
-    let p = put_count(out, at, b" in ", u64::from(transfers.fetched));
-    put_count(out, p, b" out ", u64::from(transfers.back))
-}
-
-// What the answer gains, at most 15 bytes; gives the place after it.
-fn put_gains(out: &mut [u8], at: usize, answer: Answer, transfers: Transfers) -> usize
-    requires { at + 15 ≤ length out.old }
-    ensures { (out.new ≡ splice out.old at (gains (says answer) transfers)) × (result ≡ at + length (gains (says answer) transfers)) × (result ≤ at + 15) }
-{
-    match answer {
-        Answer::Read(..) | Answer::Done(_) | Answer::Same(_) => put_transfers(out, at, transfers),
-        Answer::Accepted | Answer::Wait | Answer::Moved | Answer::No(_) => at,
+    // The w digits of v.
+    fn digits(&mut self, base: u64, w: usize, v: u64)
+        requires { (0 < base) × (base ≤ 16) × Room self.old w }
+        ensures { Puts self.old self.new (digits base w v) }
+    {
+        let end = self.at + w;
+        put_digits(&mut self.out[self.at..end], base, v);
+        self.at = end;
     }
-}
 
-// What is said and what it gains, at most 40 bytes; gives the place after it.
-fn put_answer(out: &mut [u8], at: usize, answer: Answer, transfers: Transfers) -> usize
-    requires { at + 40 ≤ length out.old }
-    ensures { (out.new ≡ splice out.old at (said_text (says answer) ++ gains (says answer) transfers)) × (result ≡ at + length (said_text (says answer) ++ gains (says answer) transfers)) × (result ≤ at + 40) }
-{
-    let p = put_said(out, at, answer);
-    put_gains(out, p, answer, transfers)
-}
+    // A number in decimal.
+    fn decimal(&mut self, v: u64)
+        requires { Room self.old (places v) }
+        ensures { Puts self.old self.new (decimal v) }
+    {
+        self.digits(10, count(v), v);
+    }
 
-// The line where there is room for it.
-fn put_room(out: &mut [u8], at: usize, k: u64, answer: Answer, transfers: Transfers) -> usize
-    requires { at + most ≤ length out.old }
-    ensures { (out.new ≡ splice out.old at (line_text k (says answer) transfers)) × (result ≡ at + length (line_text k (says answer) transfers)) }
-{
-    let p = put_decimal(out, at, k);
-    let q = put(out, p, b" ");
-    let e = put_answer(out, q, answer, transfers);
-    put(out, e, b"\n")
+    // A word and a number in decimal.
+    fn counted(&mut self, word: &[u8], k: u64)
+        requires { Room self.old (length word.now + places k) }
+        ensures { Puts self.old self.new (word.now ++ decimal k) }
+    {
+        self.put(word);
+        self.decimal(k);
+    }
+
+    // `read V turns K`
+    fn read(&mut self, v: u64, k: u64)
+        requires { Room self.old (20 + places k) }
+        ensures { Puts self.old self.new (said_text (read v k)) }
+    {
+        self.put(b"read ");
+        self.digits(16, 8, v);
+        self.counted(b" turns ", k);
+    }
+
+    // What the answer says, at most 25 bytes.
+    fn said(&mut self, answer: Answer)
+        requires { Room self.old 25 }
+        ensures { PutsIn 25 self.old self.new (said_text (says answer)) }
+    {
+        match answer {
+            Answer::Accepted => self.put(b"ok"),
+            Answer::Wait => self.put(b"wait"),
+            Answer::Moved => self.put(b"moved"),
+            Answer::Read(v, k) => self.read(u64::from(v), u64::from(k)),
+            Answer::Done(k) => self.counted(b"done turns ", u64::from(k)),
+            Answer::Same(k) => self.counted(b"same turns ", u64::from(k)),
+            Answer::No(r) => self.counted(b"no ", u64::from(u8::from(r))),
+        }
+    }
+
+    // ` in I out O`, at most 15 bytes.
+    fn transfers(&mut self, transfers: Transfers)
+        requires { Room self.old 15 }
+        ensures { PutsIn 15 self.old self.new (transfers_text transfers) }
+    {
+        self.counted(b" in ", u64::from(transfers.fetched));
+        self.counted(b" out ", u64::from(transfers.back));
+    }
+
+    // What the answer gains, at most 15 bytes.
+    fn gains(&mut self, answer: Answer, transfers: Transfers)
+        requires { Room self.old 15 }
+        ensures { PutsIn 15 self.old self.new (gains (says answer) transfers) }
+    {
+        match answer {
+            Answer::Read(..) | Answer::Done(_) | Answer::Same(_) => self.transfers(transfers),
+            Answer::Accepted | Answer::Wait | Answer::Moved | Answer::No(_) => {}
+        }
+    }
+
+    // What is said and what it gains, at most 40 bytes.
+    fn answer(&mut self, answer: Answer, transfers: Transfers)
+        requires { Room self.old 40 }
+        ensures { PutsIn 40 self.old self.new (said_text (says answer) ++ gains (says answer) transfers) }
+    {
+        self.said(answer);
+        self.gains(answer, transfers);
+    }
+
+    // The line, with its newline.
+    fn whole(&mut self, k: u64, answer: Answer, transfers: Transfers)
+        requires { Room self.old most }
+        ensures { Puts self.old self.new (line_text k (says answer) transfers) }
+    {
+        self.decimal(k);
+        self.put(b" ");
+        self.answer(answer, transfers);
+        self.put(b"\n");
+    }
 }
 
 // There is room in `out` from `at` for any line.
@@ -150,7 +169,9 @@ pub fn put_line(out: &mut [u8], at: usize, k: u64, answer: Answer, transfers: Tr
     ensures { (out.new ≡ splice out.old at (line_in out.old at k (says answer) transfers)) × (result ≡ at + length (line_in out.old at k (says answer) transfers)) }
 {
     if has_room(out, at) {
-        put_room(out, at, k, answer, transfers)
+        let mut line = Line { out, at };
+        line.whole(k, answer, transfers);
+        line.at
     } else {
         at
     }

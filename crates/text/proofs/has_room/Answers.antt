@@ -4,7 +4,7 @@ use native.Mathlib.Omega.{arith}
 use Prim.Native.Nat.{◌+◌}
 use lib.ListN.{length}
 use Rattle.laws.specs.Bytes.{fits}
-use Rattle.text.proofs.Lines.{leb_minus}
+use Rattle.text.proofs.Writes.{leb_minus}
 use Rattle.text.proofs.has_room.Goals as goal
 
 pub returns-then-out-ge-MOST : goal.returns-then-out-ge-MOST
