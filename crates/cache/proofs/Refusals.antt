@@ -33,7 +33,7 @@ use Rattle.placing.specs.Lines.{rows, Drained, all_drained, drained_on}
 use Rattle.rules.proofs.Whole.{in_limits-of, n-most, t-most, l-most, whole-facts}
 use Rattle.rules.proofs.Calls.{bytes-right, memory-right}
 use Rattle.rules.proofs.Begun.{fresh-free, fresh-refused as refuses-fresh, fresh-accepted as accepts-fresh, open-refused as refuses-open, open-accepted as accepts-open}
-use Rattle.whole.proofs.Numbers.{number-some}
+use Rattle.laws.proofs.Told.{number-some}
 use Rattle.cache.specs.Seen.{unready, unfit}
 
 both_yes : (a : Bool) → both a true ≡ a

@@ -46,7 +46,7 @@ const BITS_8: u64 = 1 << u8::BITS;
 const PHASES: u64 = 8;
 
 // The number of a phase: which it is, and eight times its level.
-// Kept: no `From` and `TryFrom`, which may not stand here, since neither type is of this crate; a type of its own for the number is no plainer.
+// Kept: the numbers are those of C (a tracker's first word, `include/tag_model.h`), of which tracker, where a `From` would stand, knows nothing.
 fn phase_number(phase: Phase) -> u64
     ensures { result ≡ phase_number phase }
 {

@@ -6,11 +6,7 @@ use lib.Dec.{ltb}
 use Rattle.laws.specs.Choice.{pick}
 use Rattle.geometry.specs.TagMemory.{values}
 use Rattle.tracker.specs.declared.Access.{Access}
-use Rattle.coding.specs.Answer.{refused_by}
 use Rattle.harness.specs.Calls.{Done, tag_fresh, tag_open, access_of, tag_issue, tag_drain, tag_step, tag_show, tag_whole}
-
-pub refused-one : (c : ℕ) {x y : ℕ} → x ≡ refused_by c → y ≡ refused_by c → x ≡ y
-refused-one c p q = p ∙ sym q
 
 pub access-of-one : (write bottom g v : ℕ) {x y : Access} → x ≡ access_of write bottom (pick (ltb g values) g (values - 1)) v → y ≡ access_of write bottom (pick (ltb g values) g (values - 1)) v → x ≡ y
 access-of-one write bottom g v p q = p ∙ sym q

@@ -33,6 +33,7 @@ fn ends(shape: Shape, t: Tracker, more: Transfers, answer: Answer) -> Turned
 }
 
 // The ending of a read: the group, and one turn more.
+// Kept: three functions, of one line each: they differ in the answer that they make.
 pub fn ends_read(shape: Shape, t: Tracker, more: Transfers, v: u32) -> Turned
     ensures { OnAnyRows (λ q. ends (read v (turns_of t)) shape t more q) result }
 {

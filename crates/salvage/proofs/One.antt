@@ -9,14 +9,15 @@ use Rattle.laws.specs.Refusal.{refused_with, given, refusal}
 use Rattle.geometry.proofs.One.{one}
 use Rattle.salvage.specs.declared.Salvaged.{Salvaged}
 use Rattle.salvage.specs.Salvage.{head_tests, Answer, told, Left, left, salvaging, Numbered, numbered, as_number, listed_number}
-use Rattle.writing.proofs.One.{refusal-one, refused-some, answer-one}
+use Rattle.laws.proofs.Told.{number-one, number-some}
+use Rattle.writing.proofs.One.{answer-one}
 
 -- two answers that are told the same are one
 told-one : (x y : Result Salvaged Refusal) → told x ≡ told y → x ≡ y
 told-one (Ok a) (Ok b) e = (λ i. Ok (record { length = (e i).length; listed = (e i).listed }))
-told-one (Ok a) (Err s) e = absurd (omega (arith, ap (λ (t : Answer). t.refusal) e, refused-some s))
-told-one (Err r) (Ok b) e = absurd (omega (arith, ap (λ (t : Answer). t.refusal) e, refused-some r))
-told-one (Err r) (Err s) e = ap Err (refusal-one r s (ap (λ (t : Answer). t.refusal) e))
+told-one (Ok a) (Err s) e = absurd (omega (arith, ap (λ (t : Answer). t.refusal) e, number-some s))
+told-one (Err r) (Ok b) e = absurd (omega (arith, ap (λ (t : Answer). t.refusal) e, number-some r))
+told-one (Err r) (Err s) e = ap Err (number-one r s (ap (λ (t : Answer). t.refusal) e))
 
 pub salvage-one : (image output list : List ℕ) {x y : Result Salvaged Refusal} {o p l m : List ℕ}
     → left (told x) o l ≡ salvaging image output list → left (told y) p m ≡ salvaging image output list → (x ≡ y) × (o ≡ p) × (l ≡ m)

@@ -107,6 +107,7 @@ impl<'a> Memory<'a> {
     }
 
     // The first group from a up to but not including b, all of leaf k, that is not zero; b where there is none. Leaf k has bit 1.
+    // Kept: b for none, and no Option: the search goes on from b.
     fn first_in_leaf(self, k: u32, a: u32, b: u32) -> u32
         requires { (a ≤ b) × (groups k ≤ a) × (b ≤ groups (k + 1)) × (is_marked self.n self.bytes.now k ≡ true) }
         ensures { result ≡ first_from (is_tagged self.entry.n self.entry.bytes.now) a b }
@@ -152,6 +153,7 @@ impl<'a> Span<'a> {
     }
 
     // The lowest group of them that reads not zero, by leaves with bit 1; b where there is none.
+    // Kept: b for none, and no Option: its one caller makes the Option, of this and of a's own group.
     fn lowest_by_leaves(self) -> u32
         ensures { result ≡ lowest self.entry.memory.n self.entry.memory.bytes.now self.entry.a self.entry.b }
     {

@@ -8,63 +8,19 @@ use lib.ListN.{length}
 use Rattle.std.specs.Prelude.{Result, Ok, Err}
 use Rattle.geometry.proofs.One.{one}
 use Rattle.laws.specs.declared.Refusal.{Refusal}
-use Rattle.laws.specs.declared.Refusal.TheVariants.{OutsideLimits, OtherLength, NotTrue, BrokenState, NoTracker, NoGroup, BusyTracker, IdleTracker, NoRoom, WrongCheck, OtherRule, OtherForm, SharedGroup, OtherRun}
+use Rattle.laws.proofs.Told.{number-one, number-some}
 use Rattle.laws.specs.Bytes.{put_w, bytes}
 use Rattle.laws.specs.Choice.{pick}
 use Rattle.laws.specs.Refusal.{number, refused_with, given}
 use Rattle.form.specs.Encode.{version2, headed, closed, blocks_for}
 use Rattle.form.specs.Calls.{writing_refusal, writing_answer, written}
 
--- a refusal by its number
-named : ℕ → Refusal
-named k =
-    pick (eqb k 1) OutsideLimits (pick (eqb k 2) OtherLength (pick (eqb k 3) NotTrue (pick (eqb k 4) BrokenState (pick (eqb k 5) NoTracker (pick (eqb k 6) NoGroup (pick (eqb k 7) BusyTracker
-    (pick (eqb k 8) IdleTracker (pick (eqb k 9) NoRoom (pick (eqb k 10) WrongCheck (pick (eqb k 11) OtherRule (pick (eqb k 12) OtherForm (pick (eqb k 13) SharedGroup OtherRun))))))))))))
-
-named-number : (r : Refusal) → named (number r) ≡ r
-unfolding named
-named-number OutsideLimits = refl
-named-number OtherLength = refl
-named-number NotTrue = refl
-named-number BrokenState = refl
-named-number NoTracker = refl
-named-number NoGroup = refl
-named-number BusyTracker = refl
-named-number IdleTracker = refl
-named-number NoRoom = refl
-named-number WrongCheck = refl
-named-number OtherRule = refl
-named-number OtherForm = refl
-named-number SharedGroup = refl
-named-number OtherRun = refl
-
--- two refusals of one number are one
-pub refusal-one : (r s : Refusal) → number r ≡ number s → r ≡ s
-refusal-one r s e = sym (named-number r) ∙ ap named e ∙ named-number s
-
--- and none has the number 0
-pub refused-some : (r : Refusal) → 0 < number r
-refused-some OutsideLimits = omega arith
-refused-some OtherLength = omega arith
-refused-some NotTrue = omega arith
-refused-some BrokenState = omega arith
-refused-some NoTracker = omega arith
-refused-some NoGroup = omega arith
-refused-some BusyTracker = omega arith
-refused-some IdleTracker = omega arith
-refused-some NoRoom = omega arith
-refused-some WrongCheck = omega arith
-refused-some OtherRule = omega arith
-refused-some OtherForm = omega arith
-refused-some SharedGroup = omega arith
-refused-some OtherRun = omega arith
-
 -- two answers that refuse the same and give the same are one
 pub answer-one : (x y : Result ℕ Refusal) → given x ≡ given y → refused_with x ≡ refused_with y → x ≡ y
 answer-one (Ok v) (Ok w) e f = ap Ok e
-answer-one (Ok v) (Err s) e f = absurd (omega (arith, refused-some s))
-answer-one (Err r) (Ok w) e f = absurd (omega (arith, refused-some r))
-answer-one (Err r) (Err s) e f = ap Err (refusal-one r s f)
+answer-one (Ok v) (Err s) e f = absurd (omega (arith, number-some s))
+answer-one (Err r) (Ok w) e f = absurd (omega (arith, number-some r))
+answer-one (Err r) (Err s) e f = ap Err (number-one r s f)
 
 -- of writing an image: what is answered, what is refused, and what is left
 pub write-image-one : (n : ℕ) (mem output : List ℕ) {x y : Result ℕ Refusal} {o p : List ℕ}

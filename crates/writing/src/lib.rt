@@ -34,6 +34,7 @@ fn next_marked(n: u32, memory: &[u8], k: u32) -> u32
 }
 
 // The number of leaves with bit 1 of a true memory: the ones of its map, a word at a time.
+// Kept: beside tagged's, which counts a part of the map, by bytes masked at both ends; one for both would be slower here.
 fn count_marked(n: u32, memory: &[u8]) -> u32
     requires { (n ≤ 262144) × (length memory.now ≡ memory_length n) × (is_true n memory.now ≡ true) }
     ensures { result ≡ length (records_of n memory.now) }

@@ -5,7 +5,7 @@ use native.Mathlib.Omega.{arith}
 use lib.ListN.{length}
 use Rattle.std.proofs.lemmas.Result.{err_from_is_err_and}
 use Rattle.laws.specs.Refusal.{number, refusal}
-use Rattle.writing.proofs.One.{refused-some}
+use Rattle.laws.proofs.Told.{number-some}
 use Rattle.salvage.specs.Salvage.{head_tests, new_image, left}
 use Rattle.salvage.proofs.Refusals.{some, whole, length-new, head-refused, short-output, short-list, salvages}
 use Rattle.salvage.proofs.salvage.Goals as goal
@@ -14,7 +14,7 @@ pub returns-in_err-test_head : goal.returns-in_err-test_head
 returns-in_err-test_head c = let a = c.args in
     let r = c.in_err-test_head.field-0.0 in
     let p = err_from_is_err_and c.from_residual.result c.from_residual.ensures.1 in
-    rw (p.1, p.2) (head-refused a.image.now a.output.now a.list.now (number r) c.in_err-test_head.ensures (λ z. omega (arith, refused-some r)))
+    rw (p.1, p.2) (head-refused a.image.now a.output.now a.list.now (number r) c.in_err-test_head.ensures (λ z. omega (arith, number-some r)))
 
 pub count-counted-requires : goal.count-counted-requires
 count-counted-requires c = let m = c.args.image.now in

@@ -2,7 +2,7 @@
 use mathlib.Core.Path.{◌≡◌, sym, ap, ◌∙◌}
 use borrow.Author.Rules.{rules}
 use lib.ListN.{length}
-use Rattle.whole.proofs.Numbers.{number-some}
+use Rattle.laws.proofs.Told.{number-some}
 use Rattle.rules.specs.Calls as calls
 use Rattle.cache.specs.Seen.{seen}
 use Rattle.cache.proofs.Refusals.{drain-refused, drain-accepted}

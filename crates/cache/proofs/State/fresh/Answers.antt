@@ -1,6 +1,6 @@
 -- `fresh` meets its contract: refused, or the map is cleared and the state begins.
 use mathlib.Core.Path.{sym, ◌∙◌}
-use Rattle.whole.proofs.Numbers.{number-some}
+use Rattle.laws.proofs.Told.{number-some}
 use Rattle.cache.proofs.Refusals.{fresh-refused, fresh-accepted}
 use Rattle.cache.proofs.State.fresh.Goals as goal
 

@@ -1,7 +1,7 @@
 -- `issue` meets its contract: refused, or the tracker begins.
 use mathlib.Core.Path.{sym, ◌∙◌}
 use native.Mathlib.Omega.{arith}
-use Rattle.whole.proofs.Numbers.{number-some}
+use Rattle.laws.proofs.Told.{number-some}
 use Rattle.cache.specs.Seen.{seen}
 use Rattle.cache.proofs.Refusals.{issue-in, issue-refused, issue-accepted}
 use Rattle.cache.proofs.State.issue.Goals as goal

@@ -1,7 +1,7 @@
 -- `step` meets its contract: refused, or the state and the rows are those of the turn.
 use mathlib.Core.Path.{sym, ap, ◌∙◌}
 use native.Mathlib.Omega.{arith}
-use Rattle.whole.proofs.Numbers.{number-some}
+use Rattle.laws.proofs.Told.{number-some}
 use Rattle.rules.specs.Step.{Turned}
 use Rattle.rules.specs.Calls.{stepped}
 use Rattle.cache.specs.Seen.{seen}
@@ -41,4 +41,4 @@ bounds-self-k-2 c =
 pub returns : goal.returns
 returns c =
     let a = c.args in
-    ap (λ (y : Turned). stepped (seen a.self) a.x y) c.turn-r.ensures ∙ sym (step-accepted (seen a.self) a.bytes.now a.memory.now a.x (sym c.in_default.ensures))
+    let e = step-accepted (seen a.self) a.bytes.now a.memory.now a.x (sym c.in_default.ensures) in cc
