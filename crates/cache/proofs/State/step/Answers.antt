@@ -41,4 +41,4 @@ bounds-self-k-2 c =
 pub returns : goal.returns
 returns c =
     let a = c.args in
-    let e = step-accepted (seen a.self) a.bytes.now a.memory.now a.x (sym c.in_default.ensures) in cc
+    ap (λ (y : Turned). stepped (seen a.self) a.x y) c.turn-r.ensures ∙ sym (step-accepted (seen a.self) a.bytes.now a.memory.now a.x (sym c.in_default.ensures))
