@@ -176,12 +176,7 @@ pub fn refuse_all(number: u64, input: &[u8], output: &mut [u8]) -> Place
 {
     let mut place = Place::start(number);
     while let Some(e) = place.next(input, output) {
-        place.tell(
-            e,
-            output,
-            Answer::No(Refusal::OtherForm),
-            Transfers::none(),
-        );
+        place.tell(e, output, Answer::No(Refusal::OtherForm), Transfers::none());
     }
     place
 }
