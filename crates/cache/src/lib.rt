@@ -73,7 +73,7 @@ impl State {
     {
         Out {
             state: self,
-            answer: Answer::No(r),
+            answer: Answer::No(u8::from(r)),
             transfers: Transfers::none(),
         }
     }

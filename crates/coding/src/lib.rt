@@ -283,7 +283,7 @@ pub fn number_of(answer: Answer) -> u64
     ensures { result ≡ number_of (says answer) }
 {
     match answer {
-        Answer::No(r) => REFUSED + r as u64,
+        Answer::No(c) => REFUSED + u64::from(c),
         _ => 0,
     }
 }
@@ -318,7 +318,7 @@ pub fn put_said(answer: Answer, t: Transfers, words: &mut [u64])
         Answer::Read(v, k) => put_words(words, 3, v, k, t),
         Answer::Done(k) => put_words(words, 4, 0, k, t),
         Answer::Same(k) => put_words(words, 5, 0, k, t),
-        Answer::No(r) => put_words(words, REFUSED + r as u64, 0, 0, t),
+        Answer::No(c) => put_words(words, REFUSED + u64::from(c), 0, 0, t),
     }
 }
 

@@ -46,7 +46,7 @@ module _ (t : ℕ) (k : Kept) (start : Starts t (state_of k.state) k.bytes k.mem
     place = j;
     notes = notes;
     run = Circle.under start over h (session-of k cs p)
-        (subst (λ (ds : List Event). Goes t (in_order t) i (λ x. other false) ds n j notes) (e ∙ ap (events cs) (sym (said-answers k cs p))) g);
+        (subst (λ (ds : List Event). Goes t (in_order t) i (λ x. other false) ds n j notes) (e ∙ ap (events cs) (sym (said-answers (answers k cs)))) g);
     x = x;
     at_last = l;
   }

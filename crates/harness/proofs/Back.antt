@@ -1,12 +1,8 @@
--- Fresh, open and issue write nothing back.
+-- What a call on a state says and writes back: fresh, open and issue write nothing back, and a step that is not refused says no refusal.
 use mathlib.Core.Path.{◌≡◌, refl}
 use mathlib.Core.List.{List, ◌++◌}
 use mathlib.Core.Bool.{false}
-use Prim.Native.Nat.{ℕ, ◌<◌}
-use native.Mathlib.Omega.{arith}
-use Rattle.laws.specs.declared.Refusal.{Refusal}
-use Rattle.laws.specs.declared.Refusal.TheVariants.{OutsideLimits, OtherLength, NotTrue, BrokenState, NoTracker, NoGroup, BusyTracker, IdleTracker, NoRoom, WrongCheck, OtherRule, OtherForm, SharedGroup, OtherRun}
-use Rattle.laws.specs.Refusal.{number}
+use Prim.Native.Nat.{ℕ}
 use Rattle.laws.proofs.Refusals.{refusal-0, refusal-hold, unless-by}
 use Rattle.tracker.specs.declared.Access.{Access}
 use Rattle.rules.specs.State.{State}
@@ -28,3 +24,11 @@ module _ (s : State) (bytes memory : List ℕ) where
   pub issue-back : (x : ℕ) (a : Access) → (issue s bytes memory x a).transfers.back ≡ 0
   unfolding issue
   issue-back x a = unless-by _ _ (λ (o : Out). o.transfers.back ≡ 0) (λ e. refl) (λ p. refl)
+
+  -- a step that is not refused says no refusal
+  pub step-accepted : (x : ℕ) → step_no s bytes memory x ≡ 0 → is_no (step s bytes memory x).said ≡ false
+  unfolding step_no
+  step-accepted x e =
+      let q = refusal-hold (calls.state_tests s bytes memory ++ calls.step_tests s.shape x s.trackers) refl e in
+      let r = step-free s bytes memory q.0 q.1.0 x (refusal-0 (calls.step_tests s.shape x s.trackers) q.1.1) in
+      step-not-refused s bytes memory q.0 q.1.0 x r.0 r.1

@@ -1,4 +1,5 @@
 pub mod Back
+pub mod Named
 pub mod Ways
 pub mod Unchanged
 pub mod Shown

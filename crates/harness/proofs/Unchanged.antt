@@ -17,12 +17,11 @@ use Rattle.rules.specs.Copies.{tally}
 use Rattle.rules.specs.Calls as calls
 use Rattle.rules.specs.Calls.{Out, issue, step_no, step, drain}
 use Rattle.rules.proofs.Keeps.{is_no}
-use Rattle.rules.proofs.Named.{step-accepted}
 use Rattle.cache.proofs.Refusals.{step-refused}
 use Rattle.coding.specs.Words.{coded, decoded, trackers_coded, tracker_coded}
 use Rattle.coding.specs.Answer.{refused_by, number_of, answer_coded}
 use Rattle.coding.proofs.Inverse.{coded-decoded}
-use Rattle.harness.proofs.Back.{fresh-back, open-back, issue-back}
+use Rattle.harness.proofs.Back.{fresh-back, open-back, issue-back, step-accepted}
 use Rattle.harness.specs.Calls.{Done, number_given, begins, tag_fresh, tag_open, word_tests, called, tag_issue, tag_drain, step_tests, tag_step}
 
 -- the words and the bytes are as they came

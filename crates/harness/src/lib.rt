@@ -4,7 +4,8 @@
 
 ghost use Rattle.std.specs.Prelude.{◌≡◌, ◌<◌, ◌-◌, eqb, ltb, length, IfOk, slice_index};
 ghost use Rattle.laws.specs.Choice.{pick};
-ghost use Rattle.laws.specs.Refusal.{refused_with, given, given_done, refusal};
+ghost use Rattle.laws.specs.Refusal.{number, refused_with, given, given_done, refusal};
+ghost use Rattle.laws.specs.declared.Refusal.{Refusal};
 ghost use Rattle.geometry.specs.TagMemory.{values};
 ghost use Rattle.tracker.specs.Answer.{says};
 ghost use Rattle.rules.specs.Calls.{show_no};
@@ -12,6 +13,7 @@ ghost use Rattle.cache.specs.Seen.{seen};
 ghost use Rattle.coding.specs.Words.{state_words, coded, decoded};
 ghost use Rattle.coding.specs.Answer.{number_of};
 ghost use Rattle.harness.specs.Calls.{done, begin_tests, word_tests, tag_fresh, tag_open, access_of, tag_issue, tag_drain, tag_step, shown_at, tag_show, tag_show_no, tag_whole, given_whether};
+ghost use Rattle.harness.specs.Told.{Told};
 
 use cache::{Out, State};
 use geometry::Geometry;
@@ -46,18 +48,44 @@ fn state_in(words: &[u64]) -> Result<State, Refusal>
     coding::decode(words).ok_or(Refusal::BrokenState)
 }
 
+// The refusal that has a number.
+// Kept: from a number, since an answer carries it (tracker `Answer::No`).
+fn refusal_of(c: u8) -> Refusal
+    requires { (r : Refusal) × (number r ≡ c) }
+    ensures { number result ≡ c }
+{
+    match c {
+        1 => Refusal::OutsideLimits,
+        2 => Refusal::OtherLength,
+        3 => Refusal::NotTrue,
+        4 => Refusal::BrokenState,
+        5 => Refusal::NoTracker,
+        6 => Refusal::NoGroup,
+        7 => Refusal::BusyTracker,
+        8 => Refusal::IdleTracker,
+        9 => Refusal::NoRoom,
+        10 => Refusal::WrongCheck,
+        11 => Refusal::OtherRule,
+        12 => Refusal::OtherForm,
+        13 => Refusal::SharedGroup,
+        _ => Refusal::OtherRun,
+    }
+}
+
 // The refusal of a call, if it is refused.
 fn told(answer: Answer) -> Result<(), Refusal>
+    requires { Told (says answer) }
     ensures { given_done result ≡ number_of (says answer) }
 {
     match answer {
-        Answer::No(r) => Err(r),
+        Answer::No(c) => Err(refusal_of(c)),
         _ => Ok(()),
     }
 }
 
 // The words of the state that a call hands back, and its refusal, if it is refused.
 fn leave(r: Out, state: &mut [u64]) -> Result<(), Refusal>
+    requires { Told (says r.answer) }
     ensures { (given_done result ≡ number_of (says r.answer)) × (state.new ≡ pick (eqb (length state.old) state_words) (coded (seen r.state)) state.old) }
 {
     coding::encode(r.state, state);

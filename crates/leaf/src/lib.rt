@@ -32,7 +32,7 @@ pub fn probe(shape: Shape, t: Tracker, lines: &[u32], bytes: &[u8]) -> Turned
     ensures { OnAnyMemory (λ q. probe_on shape t q) result lines.now bytes.now lines.now bytes.now }
 {
     if !placing::rows_fit(shape.l, lines, bytes) {
-        return outcome::refuses(Refusal::BrokenState, shape, t);
+        return outcome::refuses(Refusal::BrokenState as u8, shape, t);
     }
     let none = Transfers::none();
     let next = Phase::after_probe(shape.top(), 0);
@@ -64,7 +64,7 @@ fn leaf_read(
 {
     let Some(spot) = placing::bring_in(shape, Geometry::leaf_of(t.group), lines, bytes, memory)
     else {
-        return outcome::refuses(Refusal::BrokenState, shape, t);
+        return outcome::refuses(Refusal::BrokenState as u8, shape, t);
     };
     let v = group_in(bytes, spot.line, t.group);
     own::let_go(spot.shape, t, own, lines);
@@ -103,7 +103,7 @@ fn write_under_1(
 {
     let Some(spot) = placing::bring_in(shape, Geometry::leaf_of(t.group), lines, bytes, memory)
     else {
-        return outcome::refuses(Refusal::BrokenState, shape, t);
+        return outcome::refuses(Refusal::BrokenState as u8, shape, t);
     };
     if group_in(bytes, spot.line, t.group) == t.value {
         own::let_go(spot.shape, t, own, lines);
@@ -140,7 +140,7 @@ fn write_under_0(
     let new = new_leaf(t);
     let leaf = Geometry::leaf_of(t.group);
     let Some(spot) = placing::create(shape, leaf, &new, lines, bytes, memory) else {
-        return outcome::refuses(Refusal::BrokenState, shape, t);
+        return outcome::refuses(Refusal::BrokenState as u8, shape, t);
     };
     outcome::goes(spot.shape, t, spot.copies, Phase::Set(0))
 }
@@ -165,7 +165,7 @@ pub fn leaf(
 {
     let own = own::find(shape, t.group, lines);
     if !in_rows(shape.l, own.one, lines, bytes) {
-        return outcome::refuses(Refusal::BrokenState, shape, t);
+        return outcome::refuses(Refusal::BrokenState as u8, shape, t);
     }
     if !t.write {
         return leaf_read(shape, own, t, lines, bytes, memory);

@@ -2,13 +2,11 @@
 // No public function has a `requires`, and none touches the rows: each promise holds of any.
 #![tactic(auto)]
 
-ghost use Rattle.laws.specs.Refusal.{number};
 ghost use Rattle.tracker.specs.Answer.{says, read, done, same};
 ghost use Rattle.rules.specs.Step.{ends, goes, waits, refuses, turns_of};
 ghost use Rattle.outcome.specs.Steps.{OnAnyRows};
 
 use geometry::Shape;
-use laws::Refusal;
 use tracker::{Answer, Phase, Tracker, Transfers};
 
 // The shape with its hand, the tracker, the answer, and the transfers that an ending carries.
@@ -79,13 +77,14 @@ pub fn waits(shape: Shape, t: Tracker) -> Turned
 }
 
 // Nothing changes.
-pub fn refuses(r: Refusal, shape: Shape, t: Tracker) -> Turned
-    ensures { OnAnyRows (λ q. refuses (number r) t shape q) result }
+// Kept: a number, as an answer carries it; the promise is for every number.
+pub fn refuses(c: u8, shape: Shape, t: Tracker) -> Turned
+    ensures { OnAnyRows (λ q. refuses c t shape q) result }
 {
     Turned {
         shape,
         tracker: t,
-        answer: Answer::No(r),
+        answer: Answer::No(c),
         transfers: Transfers::none(),
     }
 }

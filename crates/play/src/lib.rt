@@ -176,7 +176,12 @@ pub fn refuse_all(number: u64, input: &[u8], output: &mut [u8]) -> Place
 {
     let mut place = Place::start(number);
     while let Some(e) = place.next(input, output) {
-        place.tell(e, output, Answer::No(Refusal::OtherForm), Transfers::none());
+        place.tell(
+            e,
+            output,
+            Answer::No(Refusal::OtherForm as u8),
+            Transfers::none(),
+        );
     }
     place
 }
@@ -193,7 +198,7 @@ fn begin_refused(r: Refusal, bytes: &[u8], memory: &mut [u8]) -> Out
     ensures { did result bytes.now memory.new ≡ refused (number r) zero_state bytes.now memory.old }
 {
     Out {
-        answer: Answer::No(r),
+        answer: Answer::No(u8::from(r)),
         ..State::fresh(0, 0, 0, bytes, memory)
     }
 }

@@ -16,7 +16,6 @@ pub mod Copied
 pub mod Fetched
 pub mod AnotherMemory
 pub mod Calls
-pub mod Named
 pub mod Another
 pub mod Begun
 pub mod Worked

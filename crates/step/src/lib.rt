@@ -94,7 +94,7 @@ fn top(
     }
     let b = Geometry::block_over(shape.top(), shape.n, t.group) as u32;
     let Some(spot) = placing::fetch(shape, b, lines, bytes, memory) else {
-        return outcome::refuses(Refusal::BrokenState, shape, t);
+        return outcome::refuses(Refusal::BrokenState as u8, shape, t);
     };
     descend(x, own, below, spot, t, lines, bytes)
 }
@@ -130,7 +130,7 @@ fn finish(shape: Shape, set: bool, d: u8, t: Tracker, lines: &mut [u32], bytes: 
     let own = own::find(shape, t.group, lines);
     let j = own.at(shape.top());
     if shape.l <= j {
-        return outcome::refuses(Refusal::BrokenState, shape, t);
+        return outcome::refuses(Refusal::BrokenState as u8, shape, t);
     }
     put_bit(set, d, j, t.group, bytes);
     change(lines, j);
@@ -151,7 +151,7 @@ fn by_phase(
     ensures { turned result lines.new bytes.new memory.new ≡ by_phase shape x t (rows lines.old bytes.old memory.old) t.phase }
 {
     match t.phase {
-        Phase::Idle => outcome::refuses(Refusal::IdleTracker, shape, t),
+        Phase::Idle => outcome::refuses(Refusal::IdleTracker as u8, shape, t),
         Phase::Probe(_) => leaf::probe(shape, t, lines, bytes),
         Phase::Top => top(shape, x, t, lines, bytes, memory),
         Phase::Under(_) => leaf::leaf(shape, t, lines, bytes, memory),
@@ -194,10 +194,10 @@ pub fn turn(
     ensures { turned result lines.new bytes.new memory.new ≡ turn_of shape x t (rows lines.old bytes.old memory.old) }
 {
     if !fit(shape, x, t, lines) {
-        return outcome::refuses(Refusal::BrokenState, shape, t);
+        return outcome::refuses(Refusal::BrokenState as u8, shape, t);
     }
     if !lengths_right(shape, bytes, memory) {
-        return outcome::refuses(Refusal::OtherLength, shape, t);
+        return outcome::refuses(Refusal::OtherLength as u8, shape, t);
     }
     by_phase(shape, x, t, lines, bytes, memory)
 }

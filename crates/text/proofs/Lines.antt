@@ -8,8 +8,6 @@ use borrow.Author.Tests.{leb-true}
 use mathlib.Core.Bool.{true, false}
 use Rattle.laws.specs.Bytes.{splice, fits}
 use Rattle.tracker.specs.Answer.{Said, ok, wait, moved, read, done, same, no, says}
-use Rattle.laws.specs.declared.Refusal.{Refusal}
-use Rattle.laws.specs.Refusal.{number}
 use Rattle.tracker.specs.declared.Answer.{Answer}
 use Rattle.tracker.specs.declared.Transfers.{Transfers}
 use Rattle.tracker.specs.declared.Answer.TheVariants.{Accepted, Wait, Moved, Read, Done, Same, No}
@@ -56,9 +54,9 @@ module _ (answer : Answer) where
   unfolding said_text turns
   says_same k y e f = rw (e, f)
 
-  pub says-no : (c : ℕ) (r : Refusal) → answer ≡ No r → c ≡ number r → said_text (says answer) ≡ (110 ∷ 111 ∷ 32 ∷ []) ++ decimal c
+  pub says-no : (c y : ℕ) → answer ≡ No y → c ≡ y → said_text (says answer) ≡ (110 ∷ 111 ∷ 32 ∷ []) ++ decimal c
   unfolding said_text
-  says-no c r e f = rw (e, f)
+  says-no c y e f = rw (e, f)
 
   -- a text t that is put is what the answer says
   pub said_put : (a b : Line) (t : List ℕ) → said_text (says answer) ≡ t → length t ≤ 25 → Puts a b t → PutsIn 25 a b (said_text (says answer))
@@ -105,9 +103,9 @@ module _ (answer : Answer) (t : Transfers) where
   unfolding gains
   gains-same k e = rw e
 
-  pub gains-no : (r : Refusal) → answer ≡ No r → gains (says answer) t ≡ []
+  pub gains-no : (c : ℕ) → answer ≡ No c → gains (says answer) t ≡ []
   unfolding gains
-  gains-no r e = rw e
+  gains-no c e = rw e
 
   -- nothing is put
   pub gains-none : (a : Line) → gains (says answer) t ≡ [] → PutsIn 15 a a (gains (says answer) t)

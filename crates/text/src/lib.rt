@@ -112,7 +112,7 @@ impl Line<'_> {
             Answer::Read(v, k) => self.read(u64::from(v), u64::from(k)),
             Answer::Done(k) => self.counted(b"done turns ", u64::from(k)),
             Answer::Same(k) => self.counted(b"same turns ", u64::from(k)),
-            Answer::No(r) => self.counted(b"no ", u64::from(u8::from(r))),
+            Answer::No(c) => self.counted(b"no ", u64::from(c)),
         }
     }
 

@@ -1,8 +1,7 @@
 -- Each promise of this crate allows one result for one input; and an answer is told by what it says.
-use mathlib.Core.Path.{◌≡◌, refl, ap, sym, ◌∙◌}
+use mathlib.Core.Path.{◌≡◌, refl, sym, ◌∙◌}
 use mathlib.Core.Bool.{Bool}
 use Prim.Native.Nat.{ℕ}
-use Rattle.laws.proofs.Told.{named, named-number}
 use Rattle.tracker.specs.declared.Phase.{Phase}
 use Rattle.tracker.specs.declared.Access.{Access}
 use Rattle.tracker.specs.declared.Transfers.{Transfers}
@@ -21,7 +20,7 @@ answer-of moved = Moved
 answer-of (read v k) = Read v k
 answer-of (done k) = Done k
 answer-of (same k) = Same k
-answer-of (no c) = No (named c)
+answer-of (no c) = No c
 
 back : (a : Answer) → answer-of (says a) ≡ a
 unfolding answer-of
@@ -31,7 +30,7 @@ back Moved = refl
 back (Read v k) = refl
 back (Done k) = refl
 back (Same k) = refl
-back (No r) = ap No (named-number r)
+back (No c) = refl
 
 pub says-one : (a b : Answer) → says a ≡ says b → a ≡ b
 says-one a b e = cc (back a, back b)

@@ -1,6 +1,5 @@
 -- What a call says, in 01's words, numbers and values.
 use Rattle.std.specs.Prelude.{ℕ}
-use Rattle.laws.specs.Refusal.{number}
 use Rattle.tracker.specs.declared.Answer.{Answer}
 use Rattle.tracker.specs.declared.Answer.TheVariants.{Accepted, Wait, Moved, Read, Done, Same, No}
 
@@ -22,4 +21,4 @@ says Moved = moved
 says (Read v k) = read v k
 says (Done k) = done k
 says (Same k) = same k
-says (No r) = no (number r)
+says (No c) = no c

@@ -7,8 +7,6 @@ ghost use Rattle.tracker.specs.Tracker.{idle, level_of, asks_at, keeps_at, first
 ghost use Rattle.tracker.specs.Transfers.{none, most_transfers, plus};
 ghost use Rattle.laws.specs.Choice.{pick};
 
-use laws::Refusal;
-
 // Where a tracker stands. Probe and Under are of a level: on 01's device Under(0) is its Leaf, and Top its Map. Finish is two, Set and Clear, by what it
 // does to the bit over a block of a level.
 #[derive(Clone, Copy, PartialEq, Eq, Default)]
@@ -97,6 +95,7 @@ pub struct Tracker {
 }
 
 // What a call answers. `Read` carries the group and the turns, `Done` and `Same` the turns, `No` the refusal.
+// Kept: `No` carries a number: text's `put_line` and coding's `put_said` promise for every number what they put (`Text.said_text`, `Answer.said_coded`).
 #[derive(Clone, Copy)]
 pub enum Answer {
     Accepted,
@@ -105,7 +104,7 @@ pub enum Answer {
     Read(u32, u16),
     Done(u16),
     Same(u16),
-    No(Refusal),
+    No(u8),
 }
 
 // One turn more; it stays at 65,535 once there.

@@ -48,7 +48,7 @@ fn issue(
 {
     match whole::can_issue(shape, x, access, trackers) {
         Ok(()) => accepts(shape, Tracker::begin(access), Transfers::none()),
-        Err(r) => outcome::refuses(r, shape, u),
+        Err(r) => outcome::refuses(u8::from(r), shape, u),
     }
 }
 
@@ -67,7 +67,7 @@ fn one_step(
 {
     match whole::can_step(shape, x, trackers) {
         Ok(()) => step::turn(shape, x as u32, u, lines, bytes, memory),
-        Err(r) => outcome::refuses(r, shape, u),
+        Err(r) => outcome::refuses(u8::from(r), shape, u),
     }
 }
 
@@ -85,7 +85,7 @@ fn drain(
 {
     match whole::can_drain(shape, trackers) {
         Ok(()) => accepts(shape, u, placing::drain(shape, lines, bytes, memory)),
-        Err(r) => outcome::refuses(r, shape, u),
+        Err(r) => outcome::refuses(u8::from(r), shape, u),
     }
 }
 
@@ -103,7 +103,7 @@ pub fn take(
     ensures { turned result lines.new bytes.new memory.new ≡ asked_turn shape a trackers u (rows lines.old bytes.old memory.old) }
 {
     match a {
-        Asked::Other => outcome::refuses(Refusal::OtherForm, shape, u),
+        Asked::Other => outcome::refuses(Refusal::OtherForm as u8, shape, u),
         Asked::Issue(x, access) => issue(shape, x, access, &trackers, u),
         Asked::Step(x) => one_step(shape, x, &trackers, u, lines, bytes, memory),
         Asked::Drain => drain(shape, &trackers, u, lines, bytes, memory),

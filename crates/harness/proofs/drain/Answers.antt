@@ -5,6 +5,7 @@ use Rattle.std.proofs.lemmas.Result.{err_from_is_err_and}
 use Rattle.rules.specs.Calls.{Out, drain}
 use Rattle.tracker.specs.Answer.{says}
 use Rattle.cache.specs.Seen.{seen}
+use Rattle.harness.proofs.Named.{drain-told}
 use Rattle.harness.proofs.Ways.{called-refused, called-does, given-no, given_is}
 use Rattle.harness.proofs.drain.Goals as goal
 
@@ -13,6 +14,11 @@ returns-in_err-s-clause-told c =
     let a = c.args in
     let p = err_from_is_err_and c.from_residual.result c.from_residual.ensures.1 in rw (p.1, p.2)
     (called-refused (λ s. drain s a.bytes.now a.memory.now) a.state.now a.bytes.now a.memory.now c.in_err-s.field-0.0 c.in_err-s.ensures.refusals)
+
+pub leave-requires : goal.leave-requires
+leave-requires c =
+    let a = c.args in
+    rw (ap (λ (o : Out). o.said) c.drain-r.ensures) (drain-told (seen c.in_ok-s.s) a.bytes.now a.memory.now)
 
 pub returns-in_err-leave-clause-told : goal.returns-in_err-leave-clause-told
 returns-in_err-leave-clause-told c =

@@ -3,6 +3,7 @@ use mathlib.Core.Path.{ap, ◌∙◌}
 use Rattle.std.proofs.lemmas.Result.{err_from_is_err_and}
 use Rattle.rules.specs.Calls.{Out, fresh}
 use Rattle.harness.proofs.Back.{fresh-back}
+use Rattle.harness.proofs.Named.{fresh-told}
 use Rattle.harness.proofs.Ways.{begins-refused, begins-does, given-none}
 use Rattle.harness.proofs.fresh.Goals as goal
 
@@ -11,6 +12,11 @@ returns-in_err-n c =
     let a = c.args in
     let p = err_from_is_err_and c.from_residual.result c.from_residual.ensures.1 in rw (p.1, p.2)
     (begins-refused (λ n t l. fresh n t l a.bytes.now a.memory.now) a.device.now a.state.now a.bytes.now a.memory.now c.in_err-n.field-0.0 c.in_err-n.ensures.refusals)
+
+pub leave-requires : goal.leave-requires
+leave-requires c =
+    let a = c.args in
+    rw (ap (λ (o : Out). o.said) c.fresh-r.ensures) (fresh-told c.in_ok-n.n c.in_ok-n.t c.in_ok-n.l a.bytes.now a.memory.now)
 
 pub returns : goal.returns
 returns c =

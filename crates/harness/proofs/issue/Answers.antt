@@ -6,6 +6,7 @@ use Rattle.rules.specs.Calls.{Out, issue}
 use Rattle.cache.specs.Seen.{seen}
 use Rattle.harness.specs.Calls.{access_of}
 use Rattle.harness.proofs.Back.{issue-back}
+use Rattle.harness.proofs.Named.{issue-told}
 use Rattle.harness.proofs.Ways.{called-refused, called-does, issue-wide, given-none}
 use Rattle.harness.proofs.issue.Goals as goal
 
@@ -14,6 +15,11 @@ returns-in_err-s c =
     let a = c.args in
     let p = err_from_is_err_and c.from_residual.result c.from_residual.ensures.1 in rw (p.1, p.2)
     (called-refused (λ s. issue s a.bytes.now a.memory.now a.x (access_of a.write a.bottom a.g a.v)) a.state.now a.bytes.now a.memory.now c.in_err-s.field-0.0 c.in_err-s.ensures.refusals)
+
+pub leave-requires : goal.leave-requires
+leave-requires c =
+    let a = c.args in
+    rw (ap (λ (o : Out). o.said) c.issue-r.ensures) (issue-told (seen c.in_ok-s.s) a.bytes.now a.memory.now a.x c.access_of.result)
 
 pub returns : goal.returns
 returns c =

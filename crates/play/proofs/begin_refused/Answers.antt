@@ -3,4 +3,4 @@ use Rattle.play.proofs.Ways.{refused-of}
 use Rattle.play.proofs.begin_refused.Goals as goal
 
 pub returns : goal.returns
-returns c = refused-of _ _ _ c.fresh.ensures
+returns c = rw c.from.ensures (refused-of _ _ _ c.fresh.ensures)

@@ -1,5 +1,4 @@
 -- `text::Line::said` meets its contract: each case's own pieces.
-use mathlib.Core.Path.{◌∙◌}
 use native.Mathlib.Omega.{arith}
 use Rattle.wording.proofs.Numbers.{length-decimal, places-8, places-16}
 use Rattle.text.proofs.Lines.{says-ok, says-wait, says-moved, says-read, says-done, says_same, says-no, said_put, length-read}
@@ -19,7 +18,7 @@ counted-requires-in-Same c =
 
 pub counted-requires-in-No : goal.counted-requires-in-No
 counted-requires-in-No c =
-    omega (arith, places-8 c.from-in-No-2.result (omega arith))
+    omega (arith, places-8 c.from-in-No.result (omega arith))
 
 pub returns-in-Accepted : goal.returns-in-Accepted
 returns-in-Accepted c =
@@ -58,5 +57,5 @@ returns-in-Same c =
 pub returns-in-No : goal.returns-in-No
 returns-in-No c =
     let a = c.args in
-    let w = c.from-in-No-2 in
-    said_put a.answer a.self.now c.counted-in-No.new.self _ (says-no a.answer w.result _ c.in-No.is (w.ensures ∙ c.from-in-No.ensures)) (omega (arith, length-decimal w.result, places-8 w.result (omega arith))) c.counted-in-No.ensures
+    let w = c.from-in-No in
+    said_put a.answer a.self.now c.counted-in-No.new.self _ (says-no a.answer w.result _ c.in-No.is w.ensures) (omega (arith, length-decimal w.result, places-8 w.result (omega arith))) c.counted-in-No.ensures
