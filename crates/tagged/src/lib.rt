@@ -45,6 +45,7 @@ struct Memory<'a> {
 
 impl<'a> Memory<'a> {
     // Refused 1, 2.
+    #[inline(always)]
     fn new(n: u64, bytes: &'a [u8]) -> Result<Memory<'a>, Refusal>
         ensures told { refused_with result ≡ refusal (sized n bytes.now) }
         ensures same { IfOk result (λ s. (s.n ≡ n) × (s.bytes.now ≡ bytes.now)) }
@@ -54,6 +55,7 @@ impl<'a> Memory<'a> {
     }
 
     // The groups from a up to but not including b. Refused 6.
+    #[inline(always)]
     fn span(self, a: u64, b: u64) -> Result<Span<'a>, Refusal>
         ensures told { refused_with result ≡ refusal (inside self.entry.n a b) }
         ensures same { IfOk result (λ s. (s.memory.n ≡ self.entry.n) × (s.memory.bytes.now ≡ self.entry.bytes.now) × (s.a ≡ a) × (s.b ≡ b)) }
@@ -133,6 +135,7 @@ struct Span<'a> {
 
 impl<'a> Span<'a> {
     // The memory is true. Refused 1, 2, 3, 6.
+    #[inline(always)]
     fn new(n: u64, bytes: &'a [u8], a: u64, b: u64) -> Result<Span<'a>, Refusal>
         ensures told { refused_with result ≡ refusal (tests n bytes.now a b) }
         ensures same { IfOk result (λ s. (s.memory.n ≡ n) × (s.memory.bytes.now ≡ bytes.now) × (s.a ≡ a) × (s.b ≡ b)) }
@@ -145,6 +148,7 @@ impl<'a> Span<'a> {
     }
 
     // The memory is taken as true. Refused 1, 2, 6.
+    #[inline(always)]
     fn as_true(n: u64, bytes: &'a [u8], a: u64, b: u64) -> Result<Span<'a>, Refusal>
         ensures told { refused_with result ≡ refusal (tests_as_true n bytes.now a b) }
         ensures same { IfOk result (λ s. (s.memory.n ≡ n) × (s.memory.bytes.now ≡ bytes.now) × (s.a ≡ a) × (s.b ≡ b)) }
@@ -178,6 +182,7 @@ impl<'a> Span<'a> {
     }
 
     // The lowest group of them that reads not zero. a's own group, which a sweep's next one most often is, is read first.
+    #[inline(always)]
     fn lowest(self) -> Option<u32>
         ensures { result ≡ pick (ltb (lowest self.entry.memory.n self.entry.memory.bytes.now self.entry.a self.entry.b) self.entry.b) (Some (lowest self.entry.memory.n self.entry.memory.bytes.now self.entry.a self.entry.b)) None }
     {
@@ -223,6 +228,7 @@ pub fn first_tagged(n: u64, memory: &[u8], a: u64, b: u64) -> Result<Option<u32>
 }
 
 // The number of tagged leaves alone.
+#[inline(always)]
 pub fn tagged_leaves(n: u64, memory: &[u8], a: u64, b: u64) -> Result<u32, Refusal>
     ensures told { given result ≡ leaves_number (between n memory.now a b) }
     ensures fits { IfOk result (λ v. v < 4294967296) }
@@ -231,6 +237,8 @@ pub fn tagged_leaves(n: u64, memory: &[u8], a: u64, b: u64) -> Result<u32, Refus
 }
 
 // `first_tagged` with the memory taken as true. Of any bytes: the lowest group that plain reading says is not zero.
+// It is inlined with what it calls: a sweep calls it once for each tagged group.
+#[inline(always)]
 pub fn first_tagged_as_true(n: u64, memory: &[u8], a: u64, b: u64) -> Result<Option<u32>, Refusal>
     ensures told { group_given result ≡ group_number (between_as_true n memory.now a b) }
     ensures fits { IfOk result (λ o. IfSome o (λ g. g < 4294967296)) }
@@ -247,6 +255,7 @@ pub fn tagged_leaves_as_true(n: u64, memory: &[u8], a: u64, b: u64) -> Result<u3
 }
 
 // What C is given of a call that answers a group: the group, NONE, or REFUSED plus the refusal.
+#[inline(always)]
 pub fn group_given(told: Result<Option<u32>, Refusal>) -> u64
     ensures { result ≡ group_given told }
 {
