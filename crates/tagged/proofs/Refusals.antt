@@ -201,3 +201,13 @@ module _ (t : Told) where
   pub count-is : t.refusal ≡ 0 → leaves_number t ≡ t.leaves
   unfolding leaves_number
   count-is h = rw (eq-eqb t.refusal 0 h)
+
+-- the number for C of what was refused, and of what was told
+pub leaves-refused : (c : ℕ) → 0 < c → 4294967296 + c ≡ leaves_number (refused c)
+unfolding leaves_number
+leaves-refused c h = rw (ne_eqb c 0 (λ z. omega arith))
+
+pub leaves-found : (g : Option ℕ) (l : ℕ) → l ≡ leaves_number (found_or_not g l)
+unfolding leaves_number
+leaves-found (Some g) l = refl
+leaves-found None l = refl

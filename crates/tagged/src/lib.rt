@@ -233,7 +233,7 @@ pub fn tagged_leaves(n: u64, memory: &[u8], a: u64, b: u64) -> Result<u32, Refus
     ensures told { given result ≡ leaves_number (between n memory.now a b) }
     ensures fits { IfOk result (λ v. v < 4294967296) }
 {
-    Ok(Span::new(n, memory, a, b)?.leaves())
+    Ok(between(n, memory, a, b)?.leaves)
 }
 
 // `first_tagged` with the memory taken as true. Of any bytes: the lowest group that plain reading says is not zero.

@@ -1,19 +1,18 @@
 -- The leaves, or why not.
-use mathlib.Core.Path.{◌≡◌, sym, ◌∙◌}
+use mathlib.Core.Path.{◌≡◌, ap, ◌∙◌}
 use Prim.Native.Nat.{◌+◌}
 use borrow.Author.Rules.{rules}
 use Rattle.laws.specs.Refusal.{number, given}
 use Rattle.laws.proofs.Told.{number-some}
-use Rattle.tagged.proofs.Refusals.{leaves-none-said, leaves-said}
+use Rattle.tagged.specs.Tagged.{leaves_number}
+use Rattle.tagged.proofs.Refusals.{leaves-refused, leaves-found}
 use Rattle.tagged.proofs.tagged_leaves.Goals as goal
 
-pub returns-in_err-new-clause-told : goal.returns-in_err-new-clause-told
-returns-in_err-new-clause-told c =
-    let some = number-some c.in_err-new.field-0.0 in
-    let told : given c.from_residual.result ≡ 4294967296 + number c.in_err-new.field-0.0 = search rules in
-    told ∙ sym (leaves-none-said _ _ _ _ _ c.in_err-new.ensures.told some)
+pub returns-in_err-between-clause-told : goal.returns-in_err-between-clause-told
+returns-in_err-between-clause-told c =
+    let some = number-some c.in_err-between.field-0.0 in
+    let told : given c.from_residual.result ≡ 4294967296 + number c.in_err-between.field-0.0 = search rules in
+    told ∙ leaves-refused _ some ∙ ap leaves_number c.in_err-between.ensures
 
 pub returns-clause-told : goal.returns-clause-told
-returns-clause-told c =
-    let ok = c.in_ok-new.ensures in
-    (rw (ok.same.0, ok.same.1, ok.same.2, ok.same.3) at c.leaves.ensures) ∙ sym (leaves-said _ _ _ _ (sym ok.told))
+returns-clause-told c = leaves-found _ _ ∙ ap leaves_number c.in_ok-between.ensures
