@@ -1,12 +1,15 @@
--- Laws of blocks: one that is read, and one that is copied from a part of a row to a part of memory.
-use mathlib.Core.Path.{◌≡◌, refl, sym, ◌∙◌}
+-- Laws of blocks: one that is read, one that is copied by words, and one that is copied from a part of a row to a part of memory.
+use mathlib.Core.Path.{◌≡◌, refl, ap, sym, ◌∙◌}
 use mathlib.Core.List.{List}
 use Prim.Native.Nat.{ℕ, ◌+◌, ◌≤◌, ◌<◌}
+use native.Mathlib.Omega.{arith}
 use borrow.Author.Tests.{le-leb, lt-leb}
 use lib.ListN.{length, replicate}
 use Rattle.laws.specs.Choice.{pick}
-use Rattle.laws.specs.Bytes.{part, fits, put_w}
+use Rattle.laws.specs.Bytes.{part, splice, fits, put_w}
 use Rattle.laws.proofs.Put.{put_w-not}
+use Rattle.laws.proofs.Parts.{part-all, part_none}
+use Rattle.laws.proofs.Writes.{splice-none, splice-end, splice-part-more}
 use Rattle.block.specs.Block.{block_or0}
 
 module _ (m : List ℕ) (a : ℕ) where
@@ -17,6 +20,19 @@ module _ (m : List ℕ) (a : ℕ) where
   pub block_or0-not : length m < a + 64 → block_or0 m a ≡ replicate 64 0
   unfolding block_or0 fits
   block_or0-not h = rw (lt-leb _ _ h)
+
+-- the first n bytes of s in place of those of d, a block each
+module _ (d s : List ℕ) (g : length d ≡ 64) (h : length s ≡ 64) where
+  pub copied_none : d ≡ splice d 0 (part s 0 0)
+  copied_none = sym (ap (splice d 0) (part_none s 0) ∙ splice-none d 0)
+
+  pub copied_more : (n : ℕ) {x y : List ℕ} → n + 16 ≤ 64 → x ≡ splice d 0 (part s 0 n) → y ≡ splice x n (part s n 16) → y ≡ splice d 0 (part s 0 (n + 16))
+  copied_more n l e k =
+      let z : 0 + n ≡ n = omega arith in
+      k ∙ rw e (rw z at (splice-part-more d 0 s 0 n 16 (omega arith) (omega arith)))
+
+  pub copied_all : (n : ℕ) {x : List ℕ} → n ≡ 64 → x ≡ splice d 0 (part s 0 n) → x ≡ s
+  copied_all n l e = e ∙ rw (l, part-all s 64 h) (splice-end d 0 s (omega arith))
 
 -- a block from a part of a row to a part of memory: where the row has not 64 bytes there, where memory has not, and where both have
 module _ (m : List ℕ) (at : ℕ) (row : List ℕ) (from : ℕ) where

@@ -14,7 +14,7 @@ use geometry::Geometry;
 fn has(row: &[u8], at: usize, n: usize) -> bool
     ensures { IsTrue result ↔ (at + n ≤ length row.now) }
 {
-    at <= row.len() && n <= row.len() - at
+    n <= row.len() && at <= row.len() - n
 }
 
 // The number whose four bytes begin at `at`.
@@ -58,12 +58,26 @@ fn put_word(row: &mut [u8], at: usize, v: u32)
     row[at..at + 4].copy_from_slice(&v.to_le_bytes());
 }
 
+// All of one block into another, 16 bytes at a time.
+// Kept: by words, each of which is read whole before it is put, so that it moves as one; of two rows that are lent `copy_from_slice` first asks whether they overlap.
+fn copy(to: &mut [u8], from: &[u8])
+    requires { (length to.old ≡ 64) × (length from.now ≡ 64) }
+    ensures { to.new ≡ from.now }
+{
+    for i in 0..4 {
+        let at = 16 * i;
+        let mut word = [0u8; 16];
+        word.copy_from_slice(&from[at..at + 16]);
+        to[at..at + 16].copy_from_slice(&word);
+    }
+}
+
 // The block into memory's part from `at`; where it does not fit, memory stays as it was.
 pub fn write_block(memory: &mut [u8], at: usize, block: &[u8; Geometry::BLOCK_LEN])
     ensures { memory.new ≡ put_w 64 memory.old at block.now }
 {
     if has(memory, at, Geometry::BLOCK_LEN) {
-        memory[at..at + Geometry::BLOCK_LEN].copy_from_slice(block);
+        copy(&mut memory[at..at + Geometry::BLOCK_LEN], block);
     }
 }
 
@@ -73,7 +87,7 @@ pub fn read_block(memory: &[u8], at: usize) -> [u8; Geometry::BLOCK_LEN]
 {
     let mut block = [0u8; Geometry::BLOCK_LEN];
     if has(memory, at, Geometry::BLOCK_LEN) {
-        block.copy_from_slice(&memory[at..at + Geometry::BLOCK_LEN]);
+        copy(&mut block, &memory[at..at + Geometry::BLOCK_LEN]);
     }
     block
 }
@@ -83,7 +97,8 @@ pub fn copy_block(memory: &mut [u8], at: usize, row: &[u8], from: usize)
     ensures { memory.new ≡ pick (fits row.now from 64) (put_w 64 memory.old at (part row.now from 64)) memory.old }
 {
     if has(row, from, Geometry::BLOCK_LEN) && has(memory, at, Geometry::BLOCK_LEN) {
-        memory[at..at + Geometry::BLOCK_LEN].copy_from_slice(
+        copy(
+            &mut memory[at..at + Geometry::BLOCK_LEN],
             &row[from..from + Geometry::BLOCK_LEN],
         );
     }

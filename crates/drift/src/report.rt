@@ -1,14 +1,49 @@
 // What drift writes: the places that drifted, those whose transfers differ, the lines that are none of replay, the sheet's numbers.
+ghost use Rattle.std.specs.Prelude.{◌≤◌, length};
+
 use crate::side::Side;
 use measure::{Pair, Tally};
 use std::io;
-use std::io::{Cursor, Write};
+use std::io::{ErrorKind, Write};
 
 // The output is written out before a place that could need more than is left: two file names and four lines.
-const FULL: u64 = 57000;
+const FULL: usize = 57000;
 
-// What is put, in a lent row.
-pub(crate) type Out<'a> = Cursor<&'a mut [u8]>;
+// What is put, in a lent row: the bytes up to a place.
+#[derive(Drop)]
+pub(crate) struct Out<'a> {
+    row: &'a mut [u8],
+    at: usize,
+    ghost within: { at ≤ length row.now },
+}
+
+impl<'a> Out<'a> {
+    pub(crate) fn new(row: &'a mut [u8]) -> Out<'a> {
+        Out { row, at: 0 }
+    }
+}
+
+impl Write for Out<'_> {
+    fn write(&mut self, s: &[u8]) -> io::Result<usize> {
+        let n = s.len().min(self.row.len() - self.at);
+        self.write_all(&s[..n])?;
+        Ok(n)
+    }
+
+    // One copy, where the trait's own goes round `write`.
+    fn write_all(&mut self, s: &[u8]) -> io::Result<()> {
+        let Some(to) = self.row[self.at..].get_mut(..s.len()) else {
+            return Err(io::Error::from(ErrorKind::WriteZero));
+        };
+        to.copy_from_slice(s);
+        self.at += s.len();
+        Ok(())
+    }
+
+    fn flush(&mut self) -> io::Result<()> {
+        Ok(())
+    }
+}
 
 // Writes bytes to a standard stream. A write that fails is let go.
 pub(crate) fn say(to: &impl Print, s: &[u8]) {
@@ -17,15 +52,12 @@ pub(crate) fn say(to: &impl Print, s: &[u8]) {
 
 // Writes out what was put, and begins anew.
 pub(crate) fn flush(rt: &impl Print, out: &mut Out<'_>) {
-    let at = out.position();
-    if let Some(s) = out.get_ref().get(..at as usize) {
-        say(rt, s);
-    }
-    out.set_position(0);
+    say(rt, &out.row[..out.at]);
+    out.at = 0;
 }
 
 pub(crate) fn flush_if(rt: &impl Print, out: &mut Out<'_>) {
-    if FULL < out.position() {
+    if FULL < out.at {
         flush(rt, out);
     }
 }

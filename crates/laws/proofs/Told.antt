@@ -7,7 +7,7 @@ use Rattle.laws.specs.declared.Refusal.{Refusal}
 use Rattle.laws.specs.declared.Refusal.TheVariants.{OutsideLimits, OtherLength, NotTrue, BrokenState, NoTracker, NoGroup, BusyTracker, IdleTracker, NoRoom, WrongCheck, OtherRule, OtherForm, SharedGroup, OtherRun}
 use lib.Dec.{eqb}
 use Rattle.laws.specs.Choice.{pick}
-use Rattle.laws.specs.Refusal.{number, refused_with, given}
+use Rattle.laws.specs.Refusal.{number, refused_with, given, given_done}
 
 -- the refusal that has a number, where one has it
 unfoldable pub named : ℕ → Refusal
@@ -90,3 +90,9 @@ given-one (Ok a) (Ok b) f g e = ap Ok e
 given-one (Ok a) (Err q) f g e = absurd (omega arith)
 given-one (Err p) (Ok b) f g e = absurd (omega arith)
 given-one (Err p) (Err q) f g e = ap Err (number-one p q (omega arith))
+
+pub done-one : (r s : Result Unit Refusal) → given_done r ≡ given_done s → r ≡ s
+done-one (Ok u) (Ok v) e = refl
+done-one (Ok u) (Err q) e = absurd (omega (arith, number-some q))
+done-one (Err p) (Ok v) e = absurd (omega (arith, number-some p))
+done-one (Err p) (Err q) e = ap Err (number-one p q (omega arith))

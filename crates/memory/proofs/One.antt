@@ -8,12 +8,15 @@ use Rattle.laws.specs.declared.Refusal.{Refusal}
 use Rattle.laws.specs.Refusal.{refusal, refused_with, given}
 use Rattle.laws.proofs.Told.{refused-one, given-one}
 use Rattle.geometry.proofs.One.{one}
-use Rattle.memory.specs.PlainReading.{bit_over, plain_group_of, plain_group, sized_of, sized, plain_reading_of, plain_reading}
+use Rattle.memory.specs.PlainReading.{bit_over, next_marked, plain_group_of, plain_group, sized_of, sized, plain_reading_of, plain_reading}
 use Rattle.memory.specs.True.{map_word, is_true_of, is_true, cleared_of, cleared_map}
 
 module _ (n : ℕ) (m : List ℕ) where
   pub bit-over-one : (e k : ℕ) {r s : ℕ} → r ≡ bit_over e n m k → s ≡ bit_over e n m k → r ≡ s
   bit-over-one e k = one
+
+  pub next-marked-one : (k end : ℕ) {r s : ℕ} → r ≡ next_marked n m k end → s ≡ next_marked n m k end → r ≡ s
+  next-marked-one k end = one
 
   pub plain-group-of-one : (top g : ℕ) {r s : ℕ} → r ≡ plain_group_of top n m g → s ≡ plain_group_of top n m g → r ≡ s
   plain-group-of-one top g = one

@@ -56,6 +56,18 @@ module _ (n : ℕ) (m : List ℕ) (B : Bytes m) (j word rest : ℕ) (w : word �
     pub none_before : (k : ℕ) → j ≤ k → k < j + zeros → leaf_bit n m k ≡ 0
     none_before k a h = sym (rest-bit k a (omega (arith, in-it))) ∙ lowest-below 32 rest (k - j) (omega arith)
 
+-- word i, from its own first leaf on
+pub its-word : (n : ℕ) (m : List ℕ) (i word : ℕ) → word ≡ map_word n m i → word ≡ map_word n m (32 * i / 32)
+its-word n m i word w =
+    let h : i ≡ 32 * i / 32 = omega arith in
+    w ∙ ap (map_word n m) h
+
+pub whole-word : (i word : ℕ) → word ≡ word / 2 ^ (32 * i % 32)
+whole-word i word =
+    let h : 0 ≡ 32 * i % 32 = omega arith in
+    let z : word ≡ word / 1 = omega arith in
+    z ∙ ap (λ (y : ℕ). word / 2 ^ y) h
+
 -- leaves with bit 1, from leaf k on
 module _ (n : ℕ) (m : List ℕ) where
   marked-not : (k : ℕ) → leaf_bit n m k ≡ 0 → marked n m k ≡ false

@@ -103,18 +103,21 @@ pub fn map_word(n: u32, memory: &[u8], i: u32) -> u32
     )
 }
 
-// The first leaf from k up to but not including end with bit 1; end where there is none. What is zero of a word of the map, from k's bit on, is passed over at once.
+// The first leaf from k up to but not including end with bit 1; end where there is none. k's word of the map is read from k's bit on; a word of zeros is passed over at once.
 // Kept: end for none, and no Option: both callers go on from where the search ends, and an Option would be `unwrap_or(end)` in each.
+#[inline(always)]
 pub fn next_marked(n: u32, memory: &[u8], k: u32, end: u32) -> u32
     ensures { result ≡ next_marked n memory.now k end }
 {
-    let mut j = k;
-    while j < end {
-        let rest = map_word(n, memory, j / WORD_BITS) >> (j % WORD_BITS);
-        if rest != 0 {
-            return end.min(j + rest.trailing_zeros());
+    let rest = map_word(n, memory, k / WORD_BITS) >> (k % WORD_BITS);
+    if rest != 0 {
+        return end.min(k + rest.trailing_zeros());
+    }
+    for i in k / WORD_BITS + 1..end.div_ceil(WORD_BITS) {
+        let word = map_word(n, memory, i);
+        if word != 0 {
+            return end.min(WORD_BITS * i + word.trailing_zeros());
         }
-        j += (WORD_BITS - j % WORD_BITS).min(end - j);
     }
     end
 }

@@ -128,7 +128,7 @@ fn play_lines(
     while let Some(e) = place.next(input, output) {
         let a = asked(script::parse(&input[place.taken..e]));
         let x = turn::named(shape.t, a);
-        let r = turn::take(shape, a, trackers, trackers[x], &mut lines, bytes, memory);
+        let r = turn::take(shape, a, &trackers, trackers[x], &mut lines, bytes, memory);
         shape = r.shape;
         trackers[x] = r.tracker;
         place.tell(e, output, r.answer, r.transfers);

@@ -175,6 +175,7 @@ impl Replay {
     // What is left of a chunk moves to the front; of a line longer than the buffer, its first bytes are enough.
     fn front(&mut self, taken: usize, end: usize)
         requires { (taken ≤ end) × (end ≤ 65536) }
+        ensures { self.new.filled ≤ 65536 }
     {
         for i in taken..end {
             self.input[i - taken] = self.input[i];

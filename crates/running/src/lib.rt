@@ -78,7 +78,7 @@ fn run_calls(
     for i in 0..calls.len() / CALL_WORDS {
         let a = asked_in(calls, CALL_WORDS * i);
         let x = turn::named(shape.t, a);
-        let r = turn::take(shape, a, trackers, trackers[x], &mut lines, bytes, memory);
+        let r = turn::take(shape, a, &trackers, trackers[x], &mut lines, bytes, memory);
         shape = r.shape;
         trackers[x] = r.tracker;
         put_at(answers, coding::ANSWER_WORDS * i, r.answer, r.transfers);

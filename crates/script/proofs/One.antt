@@ -2,7 +2,8 @@
 use mathlib.Core.Path.{◌≡◌, refl, ap, sym, ◌∙◌}
 use mathlib.Core.List.{List}
 use Prim.Native.Nat.{ℕ}
-use Rattle.std.specs.Prelude.{Option, Some, None}
+use Rattle.std.specs.Prelude.{Option, Some, None, ◌==◌}
+use Rattle.std.specs.List.{position}
 use Rattle.script.specs.declared.Command.{Command}
 use Rattle.script.specs.declared.Command.TheVariants.{New, Read, Write, Step, Drain}
 use Rattle.script.specs.Script.{Asks, news, reads, writes, steps, drains, bad, asks, asks_for}
@@ -30,3 +31,6 @@ asks-injective a b e = sym (command-asks a) ∙ ap command e ∙ command-asks b
 
 pub parse-one : (line : List ℕ) (a b : Option Command) → asks a ≡ asks_for line → asks b ≡ asks_for line → a ≡ b
 parse-one line a b p q = asks-injective a b (p ∙ sym q)
+
+pub find-one : (line : List ℕ) (b : ℕ) {r s : Option ℕ} → r ≡ position (λ x. x == b) line → s ≡ position (λ x. x == b) line → r ≡ s
+find-one line b p q = p ∙ sym q

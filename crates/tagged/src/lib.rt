@@ -158,6 +158,8 @@ impl<'a> Span<'a> {
 
     // The lowest group of them that reads not zero, by leaves with bit 1; b where there is none.
     // Kept: b for none, and no Option: its one caller makes the Option, of this and of a's own group.
+    // It stays a function of its own, so that a sweep that finds a's own group pays nothing for it.
+    #[inline(never)]
     fn lowest_by_leaves(self) -> u32
         ensures { result ≡ lowest self.entry.memory.n self.entry.memory.bytes.now self.entry.a self.entry.b }
     {

@@ -94,19 +94,19 @@ fn drain(
 pub fn take(
     shape: Shape,
     a: Asked,
-    trackers: [Tracker; Geometry::MOST_TRACKERS],
+    trackers: &[Tracker; Geometry::MOST_TRACKERS],
     u: Tracker,
     lines: &mut [u32],
     bytes: &mut [u8],
     memory: &mut [u8],
 ) -> Turned
-    ensures { turned result lines.new bytes.new memory.new ≡ asked_turn shape a trackers u (rows lines.old bytes.old memory.old) }
+    ensures { turned result lines.new bytes.new memory.new ≡ asked_turn shape a trackers.now u (rows lines.old bytes.old memory.old) }
 {
     match a {
         Asked::Other => outcome::refuses(Refusal::OtherForm as u8, shape, u),
-        Asked::Issue(x, access) => issue(shape, x, access, &trackers, u),
-        Asked::Step(x) => one_step(shape, x, &trackers, u, lines, bytes, memory),
-        Asked::Drain => drain(shape, &trackers, u, lines, bytes, memory),
+        Asked::Issue(x, access) => issue(shape, x, access, trackers, u),
+        Asked::Step(x) => one_step(shape, x, trackers, u, lines, bytes, memory),
+        Asked::Drain => drain(shape, trackers, u, lines, bytes, memory),
     }
 }
 

@@ -9,8 +9,8 @@ use Rattle.block.proofs.copy_block.Goals.{else-has-via-then-has+else-has-2, else
 pub returns-then-has-2 : goal.returns-then-has-2
 returns-then-has-2 c =
     let a = c.args in
-    let call = c.copy_from_slice in
-    put_w-is a.memory.now a.at 64 (omega arith) (call.ensures.after ∙ part-is a.row.now a.from 64) call.ensures.len
+    let call = c.copy in
+    put_w-is a.memory.now a.at 64 (omega arith) (call.ensures ∙ part-is a.row.now a.from 64) call.auto.to
     ∙ copy-fits a.memory.now a.at a.row.now a.from (omega arith)
 
 pub returns-else-has : goal.returns-else-has

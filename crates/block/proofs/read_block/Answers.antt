@@ -7,7 +7,7 @@ use Rattle.block.proofs.read_block.Goals as goal
 
 pub returns-then-has : goal.returns-then-has
 returns-then-has c =
-    c.copy_from_slice.ensures.after
+    c.copy.ensures
     ∙ part-is c.args.memory.now c.args.at 64
     ∙ sym (block_or0-fits c.args.memory.now c.args.at (omega arith))
 

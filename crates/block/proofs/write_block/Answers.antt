@@ -6,7 +6,7 @@ use Rattle.block.proofs.write_block.Goals as goal
 
 pub returns-then-has : goal.returns-then-has
 returns-then-has c =
-    put_w-is c.args.memory.now c.args.at 64 (omega arith) c.copy_from_slice.ensures.after c.copy_from_slice.ensures.len
+    put_w-is c.args.memory.now c.args.at 64 (omega arith) c.copy.ensures c.copy.auto.to
 
 pub returns-else-has : goal.returns-else-has
 returns-else-has c = sym (put_w-not 64 _ c.args.at _ (grind arith))
