@@ -3,6 +3,7 @@ use mathlib.Core.Path.{◌≡◌}
 use mathlib.Core.Bool.{Bool}
 use mathlib.Core.List.{List}
 use Prim.Native.Nat.{ℕ}
+use lib.ListN.{length, replicate}
 use Rattle.laws.specs.Choice.{pick}
 use Rattle.laws.specs.Bytes.{part, fits, put_w, value, bytes, number_at}
 use Rattle.laws.specs.Bits.{bit_of}
@@ -36,6 +37,9 @@ put-group-one m at v = one
 
 pub all-zero-one : (m : List ℕ) {r s : Bool} → r ≡ all_zero m → s ≡ all_zero m → r ≡ s
 all-zero-one m = one
+
+pub clear-one : (m : List ℕ) {r s : List ℕ} → r ≡ replicate (length m) 0 → s ≡ replicate (length m) 0 → r ≡ s
+clear-one m = one
 
 pub bit-of-one : (x k : ℕ) {r s : ℕ} → r ≡ bit_of x k → s ≡ bit_of x k → r ≡ s
 bit-of-one x k = one

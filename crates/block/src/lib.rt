@@ -58,17 +58,29 @@ fn put_word(row: &mut [u8], at: usize, v: u32)
     row[at..at + 4].copy_from_slice(&v.to_le_bytes());
 }
 
+// The 16 bytes of `from` from `at` to the same places of `to`. All four words are read before one is put: so they move as one.
+fn copy_words(to: &mut [u8], from: &[u8], at: usize)
+    requires { (at + 16 ≤ length to.old) × (at + 16 ≤ length from.now) }
+    ensures { to.new ≡ splice to.old at (part from.now at 16) }
+{
+    let a = word_at(from, at);
+    let b = word_at(from, at + 4);
+    let c = word_at(from, at + 8);
+    let d = word_at(from, at + 12);
+    put_word(to, at, a);
+    put_word(to, at + 4, b);
+    put_word(to, at + 8, c);
+    put_word(to, at + 12, d);
+}
+
 // All of one block into another, 16 bytes at a time.
-// Kept: by words, each of which is read whole before it is put, so that it moves as one; of two rows that are lent `copy_from_slice` first asks whether they overlap.
+// Kept: by words. Of two rows that are lent `copy_from_slice` first asks whether they overlap; by way of an array, a block that is read and put stands on the stack, and by words in registers.
 fn copy(to: &mut [u8], from: &[u8])
     requires { (length to.old ≡ 64) × (length from.now ≡ 64) }
     ensures { to.new ≡ from.now }
 {
     for i in 0..4 {
-        let at = 16 * i;
-        let mut word = [0u8; 16];
-        word.copy_from_slice(&from[at..at + 16]);
-        to[at..at + 16].copy_from_slice(&word);
+        copy_words(to, from, 16 * i);
     }
 }
 

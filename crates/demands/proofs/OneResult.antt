@@ -4,7 +4,7 @@ use lib.ListN.{length}
 use Prim.Native.Nat.{◌<◌}
 use Rattle.std.specs.Prelude.{IfOk}
 use Rattle.laws.specs.Refusal.{refused_with, given}
-use Rattle.laws.proofs.Told.{given-one, refused-one}
+use Rattle.laws.proofs.Told.{given-one, refused-one, answer-one}
 use Rattle.memory.specs.PlainReading.{plain_reading}
 use Rattle.reader.proofs.One.{read-at-one}
 use Rattle.image.specs.Test.{image_test}
@@ -31,7 +31,6 @@ use Rattle.cache.proofs.State.can_show.Kinds as can-show-kinds
 use Rattle.cache.proofs.State.can_show.Reads as can_show
 use Rattle.image.proofs.image_test.Kinds as image-test-kinds
 use Rattle.image.proofs.image_test.Reads as image-test
-use Rattle.writing.proofs.One.{answer-one}
 use Rattle.writing.proofs.write_image.Kinds as write-image-kinds
 use Rattle.writing.proofs.write_image.Reads as write-image
 use Rattle.restoring.proofs.restore.Kinds as restore-kinds

@@ -4,7 +4,7 @@ use mathlib.Core.Bool.{Bool}
 use Prim.Native.Nat.{ℕ, ◌+◌}
 use Rattle.geometry.specs.declared.Shape.{Shape}
 use Rattle.geometry.specs.Shape.{shape_of, at_hand, below_top, top_of}
-use Rattle.geometry.specs.TagMemory.{leaf_of, byte_of, in_limits_of, in_limits, map_block_of, map_byte_of, map_bit_of, index, map_blocks, block_over, blocks_of, length_of, memory_length, block_place, group_place, map_place}
+use Rattle.geometry.specs.TagMemory.{leaf_of, groups, byte_of, in_limits_of, in_limits, map_block_of, map_byte_of, map_bit_of, index, map_blocks, block_over, blocks_of, length_of, memory_length, block_place, group_place, map_place}
 
 -- two results that equal one value are equal
 pub one : {A : Type 0} {d r s : A} → r ≡ d → s ≡ d → r ≡ s
@@ -18,6 +18,9 @@ in-limits-one n = one
 
 pub leaf-of-one : (g : ℕ) {r s : ℕ} → r ≡ leaf_of g → s ≡ leaf_of g → r ≡ s
 leaf-of-one g = one
+
+pub groups-one : (n : ℕ) {r s : ℕ} → r ≡ groups n → s ≡ groups n → r ≡ s
+groups-one n = one
 
 pub byte-of-one : (g : ℕ) {r s : ℕ} → r ≡ byte_of g → s ≡ byte_of g → r ≡ s
 byte-of-one g = one

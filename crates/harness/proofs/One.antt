@@ -9,7 +9,7 @@ use lib.Dec.{ltb}
 use Rattle.laws.specs.Choice.{pick}
 use Rattle.laws.specs.declared.Refusal.{Refusal}
 use Rattle.laws.specs.Refusal.{refused_with, given, given_done}
-use Rattle.laws.proofs.Told.{number-one, number-some, given-one, done-one}
+use Rattle.laws.proofs.Told.{number-one, given-one, done-one, answer-one}
 use Rattle.geometry.specs.TagMemory.{values}
 use Rattle.tracker.specs.declared.Access.{Access}
 use Rattle.harness.specs.Calls.{Done, done, tag_fresh, tag_open, access_of, tag_issue, tag_drain, tag_step, tag_show, tag_show_no, tag_whole, given_whether}
@@ -51,15 +51,9 @@ module _ (s bytes memory : List ℕ) (w b m w' b' m' : List ℕ) where
       (done-one x y (ap (λ (d : Done × List ℕ). d.0.number) e), ap (λ (d : Done × List ℕ). d.0) e, ap (λ (d : Done × List ℕ). d.1) e)
 
 -- a place may be as large as a refusal's number: which of the two it is, the second promise says
-shown-one : (x y : Result ℕ Refusal) → given x ≡ given y → refused_with x ≡ refused_with y → x ≡ y
-shown-one (Ok a) (Ok b) e f = ap Ok e
-shown-one (Ok a) (Err q) e f = absurd (omega (arith, number-some q))
-shown-one (Err p) (Ok b) e f = absurd (omega (arith, number-some p))
-shown-one (Err p) (Err q) e f = ap Err (number-one p q f)
-
 pub show-answer-one : (s bytes memory : List ℕ) (k : ℕ) (x y : Result ℕ Refusal) → (given x ≡ tag_show s bytes memory k) × (refused_with x ≡ tag_show_no s bytes memory k)
     → (given y ≡ tag_show s bytes memory k) × (refused_with y ≡ tag_show_no s bytes memory k) → x ≡ y
-show-answer-one s bytes memory k x y p q = shown-one x y (p.0 ∙ sym q.0) (p.1 ∙ sym q.1)
+show-answer-one s bytes memory k x y p q = answer-one x y (p.0 ∙ sym q.0) (p.1 ∙ sym q.1)
 
 whether-one : (x y : Result Bool Refusal) → given_whether x ≡ given_whether y → x ≡ y
 whether-one (Ok true) (Ok true) e = refl

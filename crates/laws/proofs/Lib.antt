@@ -12,3 +12,4 @@ pub mod Parts
 pub mod Stores
 pub mod Count
 pub mod Told
+pub mod One

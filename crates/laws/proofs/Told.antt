@@ -96,3 +96,10 @@ done-one (Ok u) (Ok v) e = refl
 done-one (Ok u) (Err q) e = absurd (omega (arith, number-some q))
 done-one (Err p) (Ok v) e = absurd (omega (arith, number-some p))
 done-one (Err p) (Err q) e = ap Err (number-one p q (omega arith))
+
+-- a value may be as large as a refusal's number: which of the two it is, the second says
+pub answer-one : (r s : Result ℕ Refusal) → given r ≡ given s → refused_with r ≡ refused_with s → r ≡ s
+answer-one (Ok a) (Ok b) e f = ap Ok e
+answer-one (Ok a) (Err q) e f = absurd (omega (arith, number-some q))
+answer-one (Err p) (Ok b) e f = absurd (omega (arith, number-some p))
+answer-one (Err p) (Err q) e f = ap Err (number-one p q f)

@@ -9,10 +9,14 @@ use lib.Dec.{eqb}
 use lib.ListN.{length}
 use Rattle.geometry.specs.declared.Shape.{Shape}
 use Rattle.tracker.specs.declared.Transfers.{Transfers}
+use Rattle.tracker.specs.Transfers.{none}
 use Rattle.rules.specs.Place.{rows_fit, Brought}
 use Rattle.placing.specs.declared.Spot.{Spot}
 use Rattle.placing.specs.Lines.{rows, brought, brought_if, Drained, leaves}
 use Rattle.placing.proofs.Ways.{line-is, rows_are}
+
+pub spot-at-one : (line : ℕ) (shape : Shape) {a b : Spot} → a ≡ record { line = line; shape = shape; copies = none } → b ≡ record { line = line; shape = shape; copies = none } → a ≡ b
+spot-at-one line shape p q = p ∙ sym q
 
 pub bytes-fit-one : (l : ℕ) (bytes : List ℕ) {a b : Bool} → a ≡ eqb (length bytes) (64 * l) → b ≡ eqb (length bytes) (64 * l) → a ≡ b
 bytes-fit-one l bytes p q = p ∙ sym q

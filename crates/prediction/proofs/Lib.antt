@@ -8,3 +8,4 @@ pub mod Flat
 pub mod Synchronising
 pub mod Beside
 pub mod Worked
+pub mod One

@@ -9,8 +9,7 @@ use Rattle.laws.specs.Refusal.{refused_with, given, refusal}
 use Rattle.geometry.proofs.One.{one}
 use Rattle.salvage.specs.declared.Salvaged.{Salvaged}
 use Rattle.salvage.specs.Salvage.{head_tests, Answer, told, Left, left, salvaging, Numbered, numbered, as_number, listed_number}
-use Rattle.laws.proofs.Told.{number-one, number-some}
-use Rattle.writing.proofs.One.{answer-one}
+use Rattle.laws.proofs.Told.{number-one, number-some, answer-one}
 
 -- two answers that are told the same are one
 told-one : (x y : Result Salvaged Refusal) → told x ≡ told y → x ≡ y

@@ -1,26 +1,16 @@
 -- Each promise of this crate allows one result for one input: the answer, and the lent bytes, equal a definition.
-use mathlib.Core.Path.{◌≡◌, refl, ap, sym, ◌∙◌}
+use mathlib.Core.Path.{◌≡◌}
 use mathlib.Core.List.{List, ◌++◌}
-use Prim.Native.Nat.{ℕ, ◌+◌, ◌*◌, ◌<◌}
-use native.Mathlib.Omega.{arith}
-use lib.Dec.{eqb}
+use Prim.Native.Nat.{ℕ, ◌+◌, ◌*◌}
 use lib.ListN.{length}
-use Rattle.std.specs.Prelude.{Result, Ok, Err}
+use Rattle.std.specs.Prelude.{Result}
 use Rattle.geometry.proofs.One.{one}
 use Rattle.laws.specs.declared.Refusal.{Refusal}
-use Rattle.laws.proofs.Told.{number-one, number-some}
+use Rattle.laws.proofs.Told.{answer-one}
 use Rattle.laws.specs.Bytes.{put_w, bytes}
-use Rattle.laws.specs.Choice.{pick}
-use Rattle.laws.specs.Refusal.{number, refused_with, given}
+use Rattle.laws.specs.Refusal.{refused_with, given}
 use Rattle.form.specs.Encode.{version2, headed, closed, blocks_for}
 use Rattle.form.specs.Calls.{writing_refusal, writing_answer, written}
-
--- two answers that refuse the same and give the same are one
-pub answer-one : (x y : Result ℕ Refusal) → given x ≡ given y → refused_with x ≡ refused_with y → x ≡ y
-answer-one (Ok v) (Ok w) e f = ap Ok e
-answer-one (Ok v) (Err s) e f = absurd (omega (arith, number-some s))
-answer-one (Err r) (Ok w) e f = absurd (omega (arith, number-some r))
-answer-one (Err r) (Err s) e f = ap Err (number-one r s f)
 
 -- of writing an image: what is answered, what is refused, and what is left
 pub write-image-one : (n : ℕ) (mem output : List ℕ) {x y : Result ℕ Refusal} {o p : List ℕ}
