@@ -6,6 +6,8 @@ use Prim.Native.Nat.{ℕ, suc, ◌+◌, ◌*◌, ◌/◌, ◌≤◌, ◌<◌}
 use native.Mathlib.Omega.{arith}
 use native.Mathlib.Numerals.{add-one}
 use lib.Dec.{ltb}
+use Rattle.std.specs.Prelude.{min}
+use Rattle.std.proofs.lemmas.List.{set-get_or}
 use lib.ListN.{length, get_or, set, length-set}
 use borrow.Author.Tests.{lt-ltb, le-ltb, le-leb, lt-leb, ltb-true, leb-true, eqb-true, eq-eqb}
 use Rattle.laws.specs.Choice.{pick, both}
@@ -22,7 +24,7 @@ use Rattle.tracker.specs.declared.Transfers.{Transfers}
 use Rattle.tracker.specs.Transfers.{none, plus}
 use Rattle.line.specs.Word.{block_of, changed, word, cleaned}
 use Rattle.line.specs.Find.{line_of, lowest_free, victim, after}
-use Rattle.line.proofs.Words.{changed-none}
+use Rattle.line.proofs.Words.{changed-none, cleaned-clean}
 use Rattle.line.proofs.Find.{lowest_free-free, victim-≤}
 use Rattle.rules.specs.State.{Rows}
 use Rattle.rules.specs.Copies.{Copy, fetch, fetches, backs, tally}
@@ -283,6 +285,16 @@ draining-more {l} {i} {r} {copies} {k} {z} {lines} {memory} {m} w d h ew em ek e
   lines-kept = simp length-set d.lines-kept;
   memory_kept = e ∙ d.memory_kept;
 }
+
+-- a line that is not changed stays as it is
+pub draining-clean : {l i : ℕ} {r : Rows} {copies : Transfers} {lines memory : List ℕ} → Draining l i r copies lines memory → i < l → changed (get_or lines i 0) ≡ false
+    → Draining l (i + 1) r copies lines memory
+unfolding tally
+draining-clean {l} {i} {r} {copies} {lines} {memory} d h clean =
+    let fetched : copies.fetched ≡ min (copies.fetched + 0) 255 = omega (arith, ap (λ (t : Transfers). t.fetched) d.now-copies) in
+    let back : copies.back ≡ min (copies.back + 0) 255 = omega (arith, ap (λ (t : Transfers). t.back) d.now-copies) in
+    let more : copies ≡ plus copies none = (λ j. record { fetched = fetched j; back = back j }) in
+    rw (set-get_or lines i 0) at (draining-more (get_or lines i 0) d h (sym (cleaned-clean (get_or lines i 0) clean)) (written-not lines r.bytes memory i clean) (back-not lines i clean) more refl)
 
 -- all l lines of the rows r are drained
 pub draining-all : (l i : ℕ) (r : Rows) (copies : Transfers) (ls m : List ℕ) → Draining l i r copies ls m → l ≤ i → leaves copies ls r.bytes m ≡ all_drained l r

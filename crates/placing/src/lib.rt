@@ -180,8 +180,10 @@ fn drain_all(l: usize, lines: &mut [u32], bytes: &[u8], memory: &mut [u8]) -> Tr
 {
     let mut copies = Transfers::none();
     for i in 0..l {
-        copies = copies.plus(write_back(i, lines, bytes, memory));
-        lines[i] = line::cleaned(lines[i]);
+        if line::changed(lines[i]) {
+            copies = copies.plus(write_back(i, lines, bytes, memory));
+            lines[i] = line::cleaned(lines[i]);
+        }
     }
     copies
 }
